@@ -1,5 +1,5 @@
 -- The steps of putting a folder in place.
-use Rattle.std.proofs.Common.{◌≡◌, ◌⊎◌, ◌<◌, ◌+◌, ◌++◌, ℕ, List, [], ◌∷◌, length, take, Option, Some, None, option_map, inl, inr, refl, sym, ap, ◌∙◌, arith, append-nil, append_assoc, subst}
+use Rattle.std.proofs.Common.{◌≡◌, ◌⊎◌, ◌<◌, ◌+◌, ◌++◌, ℕ, List, [], ◌∷◌, length, take, Option, Some, None, option_map, inl, inr, sym, ap, ◌∙◌, arith, append-nil, append_assoc, subst}
 use Rattle.std.proofs.lemmas.Grind.{flat_map-append}
 use Rattle.std.proofs.lemmas.List.{length-append}
 use Rattle.std.proofs.Math.Seq.{take-append-add}
@@ -18,15 +18,6 @@ told_then both (Some f) None c p q = absurd p
 told_then both (Some f) (Some g) None p q = absurd q
 told_then both (Some f) (Some g) (Some h) p q = both f g h p q
 
-pub told_as : {P Q : Folders → Folders → Type 0} → ((f g : Folders) → P f g → Q f g) → (a b : Option Folders) → IfReported P a b → IfReported Q a b
-told_as weaker None b p = tt
-told_as weaker (Some f) None p = absurd p
-told_as weaker (Some f) (Some g) p = weaker f g p
-
-told_itself : (P : Folders → Folders → Type 0) → ((f : Folders) → P f f) → (a : Option Folders) → IfReported P a a
-told_itself P self None = tt
-told_itself P self (Some f) = self f
-
 -- ---- adding files
 
 contents-append : (fs gs : List File) → contents (fs ++ gs) ≡ contents fs ++ contents gs
@@ -42,24 +33,9 @@ pub record Added (fs rest : List File) (written : ℕ) (old new : FolderState) :
   pub count : written ≡ length (contents done)
   pub adds : Adds done old new
 
-gained_none : (o : Option (List File)) → o ≡ option_map (λ gs. gs ++ []) o
-gained_none None = refl
-gained_none (Some fs) = ap Some (sym (append-nil fs))
-
 gained_one : (fs : List File) (f : File) (a b c : Option (List File)) → b ≡ option_map (λ gs. gs ++ fs) a → Gains f b c → c ≡ option_map (λ gs. gs ++ (fs ++ f ∷ [])) a
 gained_one fs f None b c e g = absurd (subst (λ o. Gains f o c) e g)
 gained_one fs f (Some gs) b c e g = subst (λ o. Gains f o c) e g ∙ ap Some (append_assoc gs fs (f ∷ []))
-
-pub added_none : (fs : List File) (s : FolderState) → Added fs fs 0 s s
-added_none fs s = record {
-  done = [];
-  of = refl;
-  count = refl;
-  adds = (
-    record { taken = sym (append-nil s.sink.taken); failures = refl; stalls = refl; openings = omega arith },
-    told_itself (IsFilled []) (λ f. (gained_none f.beside, refl, refl)) s.folders,
-  );
-}
 
 -- after one more file is written, the files after it remain
 pub added_more : (fs rest : List File) (f : File) (written : ℕ) (old mid new : FolderState) → Added fs (f ∷ rest) written old mid → Publishes f.bytes mid.sink new.sink
@@ -91,22 +67,6 @@ added_more fs rest f written old mid new before published told =
 stays_then : (fs : List File) (old mid new : Option Folders) → IfReported (IsFilled fs) old mid → IfReported (λ g h. (h.stands ≡ g.stands) × (h.stuck ≡ g.stuck)) mid new → IfReported Stays old new
 stays_then fs = told_then {Q = λ g h. (h.stands ≡ g.stands) × (h.stuck ≡ g.stuck)} (λ a b c p q. (q.0 ∙ p.1, q.1 ∙ p.2))
 
--- if the next file was not made, the files were not added, with this fault
-pub not_made : (fs rest : List File) (f : File) (written : ℕ) (old mid new : FolderState) → Added fs (f ∷ rest) written old mid → IsPublishFault f.bytes mid.sink new.sink out.NotOpened
-    → IfReported (λ g h. (h.stands ≡ g.stands) × (h.stuck ≡ g.stuck)) mid.folders new.folders → IsAddFault fs old new put.NotOpened
-not_made fs rest f written old mid new before failed told =
-    let w = before.adds.0 in (
-      record {
-        done = before.done;
-        rest = f ∷ rest;
-        of = before.of;
-        taken = failed.0 ∙ w.taken;
-        failures = failed.2 ∙ ap (λ n. n + 1) w.failures;
-        stalls = failed.3 ∙ w.stalls;
-      },
-      stays_then before.done old.folders mid.folders new.folders before.adds.1 told,
-    )
-
 cut_later : (a b : List ℕ) (rest : List File) (n : ℕ) → n < length b → take (length a + n) (a ++ (b ++ contents rest)) ≡ a ++ take n b
 cut_later a b rest n short = take-append-add a (b ++ contents rest) n ∙ ap (λ bs. a ++ bs) (take-append-le n b (contents rest) (omega arith))
 
@@ -137,11 +97,6 @@ cut_short fs rest f written n old mid new before failed told =
     caused : (f s a b u v : ℕ) → f ≡ a → s ≡ b → ((u ≡ f + 1) × (v ≡ s)) ⊎ ((u ≡ f) × (v ≡ s + 1)) → ((u ≡ a + 1) × (v ≡ b)) ⊎ ((u ≡ a) × (v ≡ b + 1))
     caused f s a b u v d e (inl h) = inl (h.0 ∙ ap (λ n. n + 1) d, h.1 ∙ e)
     caused f s a b u v d e (inr h) = inr (h.0 ∙ d, h.1 ∙ ap (λ n. n + 1) e)
-
--- if no file remains, all files are added
-pub added_all : (fs rest : List File) (written : ℕ) (old new : FolderState) → Added fs rest written old new → rest ≡ [] → Adds fs old new
-added_all fs rest written old new all none =
-    subst (λ l. Adds l old new) (sym (all.of ∙ ap (λ l. all.done ++ l) none ∙ append-nil all.done)) all.adds
 
 -- ---- the same statements for the loop, which has the name and the bytes of the next file
 

@@ -1,6 +1,6 @@
 //! The place of a path in the file system. No contract is about the file system.
 
-ghost use Rattle.std.specs.Prelude.{◌≡◌, ◌<◌, ◌++◌, [], take, length, None, IsSome, IfOk, codes};
+ghost use Rattle.std.specs.Prelude.{◌≡◌, ◌++◌, [], take, length, None, IfOk, codes};
 ghost use Rattle.std.specs.String.{string_bytes};
 ghost use Rattle.byte_io.specs.Device.{target_of};
 ghost use Rattle.byte_folder.specs.Folder.{untold};
@@ -8,10 +8,9 @@ ghost use Rattle.byte_folder.specs.Folder.{untold};
 use crate::fault::MakeFault;
 use crate::place::FolderPlace;
 use crate::way::{make_folder, path_in, remove_folder, without_slashes};
-use byte_io::{DeviceFault, Log, NotOpened, PublishFault, Sink, Tally, Target, publish};
+use byte_io::{DeviceFault, NotOpened, PublishFault, Sink, StdFile, Target, publish};
 use std::alloc::{AllocError, Global};
 use std::fs::{self, OpenOptions};
-use std::io::Write;
 use std::rt::Files;
 
 /// The place of a path. The new folder has its name with `.new`.
@@ -22,12 +21,7 @@ pub struct SystemFolder<'a, R: Files> {
     path: &'a str,
     beside: String,
     next: String,
-    file: Option<R::File>,
-    taken: Log,
-    failures: Tally,
-    stalls: Tally,
-    openings: Tally,
-    ghost counted: { IsSome file → 0 < openings.count },
+    out: StdFile<R::File>,
 }
 
 impl<'a, R: Files> SystemFolder<'a, R> {
@@ -48,11 +42,7 @@ impl<'a, R: Files> SystemFolder<'a, R> {
             path,
             beside,
             next,
-            file: None,
-            taken: Log::empty(),
-            failures: Tally::none(),
-            stalls: Tally::none(),
-            openings: Tally::none(),
+            out: StdFile::new(),
         })
     }
 }
@@ -60,30 +50,14 @@ impl<'a, R: Files> SystemFolder<'a, R> {
 impl<R: Files> Sink for SystemFolder<'_, R> {
     ghost state = { λ s. record {
       written = None;
-      taken = s.taken.bytes;
-      failures = s.failures.count;
-      stalls = s.stalls.count;
-      openings = s.openings.count;
+      taken = s.out.taken.bytes;
+      failures = s.out.failures.count;
+      stalls = s.out.stalls.count;
+      openings = s.out.openings.count;
     } };
 
     fn write_some(&mut self, buf: &[u8]) -> Result<usize, DeviceFault> {
-        let written = match &mut self.file {
-            None => Ok(0),
-            Some(file) => file.write(buf),
-        };
-        match written {
-            Ok(n) => {
-                if n == 0 && !buf.is_empty() {
-                    self.stalls = Tally::after(&self.stalls);
-                }
-                self.taken.note(&buf[..n]);
-                Ok(n)
-            }
-            Err(_) => {
-                self.failures = Tally::after(&self.failures);
-                Err(DeviceFault)
-            }
-        }
+        self.out.write_some(buf)
     }
 }
 
@@ -96,12 +70,11 @@ impl<R: Files> Target for SystemFolder<'_, R> {
             .open(self.rt, &self.next);
         match made {
             Ok(file) => {
-                self.openings = Tally::after(&self.openings);
-                self.file = Some(file);
+                self.out.open(file);
                 Ok(())
             }
             Err(_) => {
-                self.failures = Tally::after(&self.failures);
+                self.out.fail();
                 Err(NotOpened)
             }
         }
@@ -112,27 +85,29 @@ impl<R: Files> FolderPlace for SystemFolder<'_, R> {
     ghost state = { λ s. record {
       sink = record {
         written = None;
-        taken = s.taken.bytes;
-        failures = s.failures.count;
-        stalls = s.stalls.count;
-        openings = s.openings.count;
+        taken = s.out.taken.bytes;
+        failures = s.out.failures.count;
+        stalls = s.out.stalls.count;
+        openings = s.out.openings.count;
       };
       folders = None;
     } };
 
     fn make(&mut self) -> Result<(), MakeFault> {
-        let made = make_folder(self.rt, self.path, &self.beside);
-        if made.is_err() {
-            self.failures = Tally::after(&self.failures);
+        match make_folder(self.rt, self.path, &self.beside) {
+            Ok(()) => Ok(()),
+            Err(fault) => {
+                self.out.fail();
+                Err(fault)
+            }
         }
-        made
     }
 
     fn add(&mut self, name: &[u8], bytes: &[u8]) -> Result<(), PublishFault> {
         match path_in(self.alloc, &self.beside, name) {
             Some(next) => self.next = next,
             None => {
-                self.failures = Tally::after(&self.failures);
+                self.out.fail();
                 return Err(PublishFault::NotOpened);
             }
         }
@@ -141,18 +116,18 @@ impl<R: Files> FolderPlace for SystemFolder<'_, R> {
 
     fn put(&mut self) -> Result<(), NotOpened> {
         // The last file is closed first.
-        self.file = None;
+        self.out.file = None;
         match fs::rename(self.rt, &self.beside, self.path) {
             Ok(()) => Ok(()),
             Err(_) => {
-                self.failures = Tally::after(&self.failures);
+                self.out.fail();
                 Err(NotOpened)
             }
         }
     }
 
     fn remove(&mut self) {
-        self.file = None;
+        self.out.file = None;
         remove_folder(self.alloc, self.rt, &self.beside);
     }
 }

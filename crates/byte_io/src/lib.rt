@@ -2,7 +2,8 @@
 #![tactic(auto)]
 
 mod fault;
-mod file_target;
+mod late_file;
+mod late_source;
 mod log;
 mod memory;
 mod memory_target;
@@ -10,12 +11,14 @@ mod reading;
 mod sink;
 mod source;
 mod std_devices;
+mod std_file;
 mod tally;
 mod target;
 mod writing;
 
 pub use fault::{DeviceFault, InFault, NotOpened, PublishFault, WriteFault};
-pub use file_target::FileTarget;
+pub use late_file::LateFile;
+pub use late_source::LateSource;
 pub use log::Log;
 pub use memory::{Endless, Full, Pieces, Room, Then};
 pub use memory_target::MemoryTarget;
@@ -23,6 +26,7 @@ pub use reading::read_up_to;
 pub use sink::Sink;
 pub use source::Source;
 pub use std_devices::{Reading, Writing};
+pub use std_file::StdFile;
 pub use tally::Tally;
 pub use target::{Target, publish};
 pub use writing::write_all;

@@ -1,13 +1,13 @@
 //! The place of a new file in the file system. No contract is about the file system.
 
-ghost use Rattle.std.specs.Prelude.{◌≡◌, ◌<◌, None, IsSome};
+ghost use Rattle.std.specs.Prelude.{◌≡◌, None};
 ghost use Rattle.byte_io.specs.Device.{target_of};
 ghost use Rattle.byte_out.specs.Place.{untold};
 
-use byte_io::{DeviceFault, Log, Sink, Tally, WriteFault, write_all};
+use byte_io::{DeviceFault, StdFile, WriteFault, write_all};
 use byte_out::{CompareFault, MakeFault, Place, PutFault};
 use std::fs::{self, OpenFile, OpenOptions};
-use std::io::{self, Write};
+use std::io;
 use std::rt::Files;
 
 /// The place of a file that does not exist yet, such as a new office file. It is made with its name.
@@ -15,12 +15,7 @@ use std::rt::Files;
 pub struct NewPlace<'a, R: Files> {
     rt: &'a R,
     path: &'a str,
-    file: Option<R::File>,
-    taken: Log,
-    failures: Tally,
-    stalls: Tally,
-    openings: Tally,
-    ghost counted: { IsSome file → 0 < openings.count },
+    out: StdFile<R::File>,
 }
 
 impl<'a, R: Files> NewPlace<'a, R> {
@@ -32,41 +27,7 @@ impl<'a, R: Files> NewPlace<'a, R> {
         NewPlace {
             rt,
             path,
-            file: None,
-            taken: Log::empty(),
-            failures: Tally::none(),
-            stalls: Tally::none(),
-            openings: Tally::none(),
-        }
-    }
-}
-
-impl<R: Files> Sink for NewPlace<'_, R> {
-    ghost state = { λ s. record {
-      written = None;
-      taken = s.taken.bytes;
-      failures = s.failures.count;
-      stalls = s.stalls.count;
-      openings = s.openings.count;
-    } };
-
-    fn write_some(&mut self, buf: &[u8]) -> Result<usize, DeviceFault> {
-        let written = match &mut self.file {
-            None => Ok(0),
-            Some(file) => file.write(buf),
-        };
-        match written {
-            Ok(n) => {
-                if n == 0 && !buf.is_empty() {
-                    self.stalls = Tally::after(&self.stalls);
-                }
-                self.taken.note(&buf[..n]);
-                Ok(n)
-            }
-            Err(_) => {
-                self.failures = Tally::after(&self.failures);
-                Err(DeviceFault)
-            }
+            out: StdFile::new(),
         }
     }
 }
@@ -75,10 +36,10 @@ impl<R: Files> Place for NewPlace<'_, R> {
     ghost state = { λ s. record {
       sink = record {
         written = None;
-        taken = s.taken.bytes;
-        failures = s.failures.count;
-        stalls = s.stalls.count;
-        openings = s.openings.count;
+        taken = s.out.taken.bytes;
+        failures = s.out.failures.count;
+        stalls = s.out.stalls.count;
+        openings = s.out.openings.count;
       };
       files = None;
     } };
@@ -86,28 +47,27 @@ impl<R: Files> Place for NewPlace<'_, R> {
     fn make(&mut self) -> Result<(), MakeFault> {
         match made_anew(self.rt, self.path) {
             Ok(file) => {
-                self.openings = Tally::after(&self.openings);
-                self.file = Some(file);
+                self.out.open(file);
                 Ok(())
             }
             Err(fault) => {
-                self.failures = Tally::after(&self.failures);
+                self.out.fail();
                 Err(fault)
             }
         }
     }
 
     fn write(&mut self, bytes: &[u8]) -> Result<(), WriteFault> {
-        write_all(self, bytes)
+        write_all(&mut self.out, bytes)
     }
 
     fn sync(&mut self) -> Result<(), DeviceFault> {
-        if let Some(file) = &self.file {
+        if let Some(file) = &self.out.file {
             if file.sync_all().is_ok() {
                 return Ok(());
             }
         }
-        self.failures = Tally::after(&self.failures);
+        self.out.fail();
         Err(DeviceFault)
     }
 
@@ -118,11 +78,11 @@ impl<R: Files> Place for NewPlace<'_, R> {
 
     fn put(&mut self, _read: Option<&[u8]>, _bytes: &[u8]) -> Result<(), PutFault> {
         // It has its name already.
-        if self.file.is_some() {
-            self.file = None;
+        if self.out.file.is_some() {
+            self.out.file = None;
             return Ok(());
         }
-        self.failures = Tally::after(&self.failures);
+        self.out.fail();
         Err(PutFault::NotOpened)
     }
 
@@ -130,16 +90,16 @@ impl<R: Files> Place for NewPlace<'_, R> {
         match sync_folder(self.rt, self.path) {
             Ok(()) => Ok(()),
             Err(_) => {
-                self.failures = Tally::after(&self.failures);
+                self.out.fail();
                 Err(DeviceFault)
             }
         }
     }
 
     fn remove(&mut self) {
-        if self.file.is_some() {
+        if self.out.file.is_some() {
             let _ = fs::remove_file(self.rt, self.path);
-            self.file = None;
+            self.out.file = None;
         }
     }
 }

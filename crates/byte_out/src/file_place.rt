@@ -1,6 +1,6 @@
 //! The place of a path in the file system. No contract is about the file system.
 
-ghost use Rattle.std.specs.Prelude.{◌≡◌, ◌<◌, ◌++◌, None, IsSome, IfOk, codes, option_map};
+ghost use Rattle.std.specs.Prelude.{◌≡◌, ◌++◌, None, IfOk, codes, option_map};
 ghost use Rattle.std.specs.String.{string_bytes};
 ghost use Rattle.byte_io.specs.Device.{target_of};
 ghost use Rattle.byte_out.specs.Own.{IsOwnPath, marked, file_of};
@@ -13,10 +13,9 @@ use crate::place::Place;
 use crate::reserved::make_own;
 use crate::way::{FileId, Led, leads, open_for, replaced, sync_folder};
 use crate::within::{compare_beside, compare_within, put_beside, write_within};
-use byte_io::{DeviceFault, Log, Sink, Tally, WriteFault, write_all};
+use byte_io::{DeviceFault, Sink, StdFile, WriteFault, write_all};
 use std::alloc::{AllocError, Global};
 use std::fs::OpenFile;
-use std::io::Write;
 use std::os::fd::AsFd;
 use std::rt::{Clock, Files};
 use std::time::Duration;
@@ -34,13 +33,8 @@ pub struct FilePlace<'a, R: Files> {
     avoided: Option<FileId>,
     /// The new file that `reserve` made and `make` has not taken.
     reserved: Option<R::File>,
-    file: Option<R::File>,
+    out: StdFile<R::File>,
     is_beside: bool,
-    taken: Log,
-    failures: Tally,
-    stalls: Tally,
-    openings: Tally,
-    ghost counted: { IsSome file → 0 < openings.count },
 }
 
 // A new file that was reserved and not used is removed.
@@ -57,12 +51,8 @@ impl<R: Files> Drop for FilePlace<'_, R> {
             beside: _,
             avoided: _,
             reserved: _,
-            file: _,
+            out: _,
             is_beside: _,
-            taken: _,
-            failures: _,
-            stalls: _,
-            openings: _,
         } = self;
     }
 }
@@ -99,12 +89,8 @@ where
             beside,
             avoided,
             reserved: None,
-            file: None,
+            out: StdFile::new(),
             is_beside: false,
-            taken: Log::empty(),
-            failures: Tally::none(),
-            stalls: Tally::none(),
-            openings: Tally::none(),
         })
     }
 
@@ -120,7 +106,7 @@ where
         ensures beside { self.new.beside ≡ self.old.beside }
         ensures avoided { self.new.avoided ≡ self.old.avoided }
     {
-        if self.reserved.is_some() || self.file.is_some() || self.is_closed() {
+        if self.reserved.is_some() || self.out.file.is_some() || self.is_closed() {
             return Ok(());
         }
         let Some(old) = replaced(self.rt, file_of(&self.led, self.path)) else {
@@ -191,32 +177,18 @@ fn file_of<'a>(led: &'a Option<String>, path: &'a str) -> &'a str
 impl<R: Files> Sink for FilePlace<'_, R> {
     ghost state = { λ s. record {
       written = None;
-      taken = s.taken.bytes;
-      failures = s.failures.count;
-      stalls = s.stalls.count;
-      openings = s.openings.count;
+      taken = s.out.taken.bytes;
+      failures = s.out.failures.count;
+      stalls = s.out.stalls.count;
+      openings = s.out.openings.count;
     } };
 
     fn write_some(&mut self, buf: &[u8]) -> Result<usize, DeviceFault> {
-        let written = match &mut self.file {
-            None => Ok(0),
-            Some(file) if self.is_beside => file.write(buf),
-            // The bytes of a file that is written in place are written by `put`.
-            Some(_) => Ok(buf.len()),
-        };
-        match written {
-            Ok(n) => {
-                if n == 0 && !buf.is_empty() {
-                    self.stalls = Tally::after(&self.stalls);
-                }
-                self.taken.note(&buf[..n]);
-                Ok(n)
-            }
-            Err(_) => {
-                self.failures = Tally::after(&self.failures);
-                Err(DeviceFault)
-            }
+        if self.is_beside {
+            return self.out.write_some(buf);
         }
+        // The bytes of a file that is written in place are written by `put`.
+        self.out.pass(buf)
     }
 }
 
@@ -227,29 +199,28 @@ where
     ghost state = { λ s. record {
       sink = record {
         written = None;
-        taken = s.taken.bytes;
-        failures = s.failures.count;
-        stalls = s.stalls.count;
-        openings = s.openings.count;
+        taken = s.out.taken.bytes;
+        failures = s.out.failures.count;
+        stalls = s.out.stalls.count;
+        openings = s.out.openings.count;
       };
       files = None;
     } };
 
     fn make(&mut self) -> Result<(), MakeFault> {
         if self.is_closed() {
-            self.failures = Tally::after(&self.failures);
+            self.out.fail();
             return Err(MakeFault::NotOpened);
         }
         let real = file_of(&self.led, self.path);
         match open_for(self.rt, real, &self.beside, &mut self.reserved) {
             Ok((file, is_beside)) => {
                 self.is_beside = is_beside;
-                self.openings = Tally::after(&self.openings);
-                self.file = Some(file);
+                self.out.open(file);
                 Ok(())
             }
             Err(fault) => {
-                self.failures = Tally::after(&self.failures);
+                self.out.fail();
                 Err(fault)
             }
         }
@@ -260,18 +231,23 @@ where
     }
 
     fn sync(&mut self) -> Result<(), DeviceFault> {
-        if let Some(file) = &self.file {
-            if self.is_beside && file.sync_all().is_err() {
-                self.failures = Tally::after(&self.failures);
-                return Err(DeviceFault);
+        let synced = match &self.out.file {
+            Some(file) if self.is_beside => file.sync_all(),
+            Some(_) => Ok(()),
+            None => Ok(()),
+        };
+        match synced {
+            Ok(()) => Ok(()),
+            Err(_) => {
+                self.out.fail();
+                Err(DeviceFault)
             }
         }
-        Ok(())
     }
 
     fn compare(&mut self, read: &[u8]) -> Result<(), CompareFault> {
         let real = file_of(&self.led, self.path);
-        let compared = match &self.file {
+        let compared = match &self.out.file {
             Some(file) if self.is_beside => {
                 compare_beside(self.rt, file, &self.beside, real, read)
             }
@@ -282,7 +258,7 @@ where
             Ok(()) => Ok(()),
             Err(CompareFault::Changed) => Err(CompareFault::Changed),
             Err(fault) => {
-                self.failures = Tally::after(&self.failures);
+                self.out.fail();
                 Err(fault)
             }
         }
@@ -290,11 +266,11 @@ where
 
     fn put(&mut self, read: Option<&[u8]>, bytes: &[u8]) -> Result<(), PutFault> {
         let real = file_of(&self.led, self.path);
-        let put = match self.file.take() {
+        let put = match self.out.file.take() {
             None => Err(PutFault::NotOpened),
             Some(file) if self.is_beside => {
                 let put = put_beside(self.rt, &file, &self.beside, real, read, bytes);
-                self.file = Some(file);
+                self.out.file = Some(file);
                 put
             }
             Some(file) => write_within(file, bytes),
@@ -307,7 +283,7 @@ where
                 Err(PutFault::Changed)
             }
             Err(fault) => {
-                self.failures = Tally::after(&self.failures);
+                self.out.fail();
                 // The new file stays if the old one has a part of its bytes: then it is the only whole one.
                 if fault != PutFault::NotOpened {
                     self.is_beside = false;
@@ -319,14 +295,15 @@ where
 
     fn land(&mut self) -> Result<(), DeviceFault> {
         if self.is_beside && sync_folder(self.rt, file_of(&self.led, self.path)).is_err() {
-            self.failures = Tally::after(&self.failures);
+            self.out.fail();
             return Err(DeviceFault);
         }
         Ok(())
     }
 
     fn remove(&mut self) {
-        if let Some(file) = &self.file {
+        let out = &self.out;
+        if let Some(file) = &out.file {
             if self.is_beside {
                 remove_own(self.rt, &self.beside, file);
             }

@@ -1,6 +1,6 @@
 //! How a file is compared, and put in place, or written in place. No contract describes the file system.
 
-ghost use Rattle.std.specs.Prelude.{◌≤◌, IfErr, length};
+ghost use Rattle.std.specs.Prelude.{IfErr};
 ghost use Rattle.byte_out.specs.Place.{Fits};
 
 use crate::beside::{has_name, remove_own};

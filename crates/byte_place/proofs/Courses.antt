@@ -1,18 +1,19 @@
 -- The calls of a place lead along the protocol.
 use Rattle.std.proofs.Common.{◌≡◌, ◌⊎◌, inl, inr, ℕ, Bool, true, false, List, [], ◌∷◌, ◌++◌, Option, Some, None, refl, sym, ◌∙◌, ap, subst}
-use Rattle.byte_system.specs.Disk.{Call, Looks, Writes, Syncs, Compares, Renames, Unlinks, Fails}
+use Rattle.byte_system.specs.Disk.{Call, Opens, Looks, Finds, Writes, Syncs, Compares, Renames, Unlinks, Fails}
 use Rattle.byte_protocol.specs.declared.replacing.Fault.{Fault}
-use Rattle.byte_protocol.specs.Replacing.{reserved, Refuses}
-use Rattle.byte_protocol.specs.Protocol.{Stage, Owns, Fills, Replaced, ReplacedUnread, IsWhole, IsSynced, FoundSame, Move, GivesUp, WritesAll, SyncsNew, FindsSame, Puts, PutsUnread, Withdraws, Strays, Job, from, to, call_of, end, IsPath, AreIdle, IsIdle, IsRead, ChangesNone, calls_of}
+use Rattle.byte_protocol.specs.declared.replacing.Fault.TheVariants as fault
+use Rattle.byte_protocol.specs.Replacing.{reserved, Refuses, Asks}
+use Rattle.byte_protocol.specs.Protocol.{Stage, Begins, Owns, Fills, Replaced, ReplacedUnread, IsWhole, IsSynced, FoundSame, Move, GivesUp, WritesAll, SyncsNew, FindsSame, Puts, PutsUnread, Withdraws, Strays, Job, from, to, call_of, end, IsPath, AreIdle, IsIdle, IsRead, ChangesNone, calls_of}
 use Rattle.byte_protocol.specs.Unread.{HasRead}
-use Rattle.byte_protocol.proofs.Led.{IsLed, reserved_led}
-use Rattle.byte_protocol.proofs.Faults.{refused_path}
+use Rattle.byte_protocol.proofs.Led.{IsLed, owned_led}
+use Rattle.byte_protocol.proofs.Faults.{refused_anew}
 use Rattle.byte_out.specs.declared.fault.PutFault.{PutFault}
 use Rattle.byte_out.specs.declared.fault.PutFault.TheVariants as put
 use Rattle.byte_place.specs.declared.progress.At.{At}
 use Rattle.byte_place.specs.declared.progress.At.TheVariants as at
-use Rattle.byte_place.specs.Course.{HasReadUnless, LeadsTo, IsJobOf, checked, MayBePut, IsRemovable, Comes}
-use Rattle.byte_place.specs.Steps.{renamed, Unrenamed, Clears}
+use Rattle.byte_place.specs.Course.{HasReadUnless, LeadsTo, IsJobAt, IsJobOf, checked, MayBePut, IsRemovable, Comes}
+use Rattle.byte_place.specs.Steps.{renamed, Unrenamed, Clears, AreNone, Visits, MakesNone, told_of}
 
 unless : (u : Bool) (ms : List Move) → HasRead ms → HasReadUnless u ms
 unless true ms r = tt
@@ -45,27 +46,107 @@ by_other u j k s c e l idle = by_move u j k (Strays s c) e l idle tt
 pub as_at : (out new bytes : List ℕ) (u : Bool) (a b : At) (cs : List Call) → a ≡ b → ∥ Comes out new bytes u a cs ∥₁ → ∥ Comes out new bytes u b cs ∥₁
 as_at out new bytes u a b cs e t = subst (λ x. ∥ Comes out new bytes u x cs ∥₁) e t
 
--- the new file is the place's own
-owns : (u : Bool) (j : Job) (k i : ℕ) (out new bytes : List ℕ) (left : Option ℕ) (cs : List Call) → IsJobOf j k out new bytes → cs ≡ reserved new left i []
-    → LeadsTo u j k (Owns i) cs
-owns u j k i out new bytes left cs job e = led u j k (Owns i) (e ∙ ap (λ n. reserved n left i []) (sym job.at_new)) (reserved_led j k i left)
+-- the names of a job that makes these bytes
+names_of : (j : Job) (k : ℕ) (out new bytes : List ℕ) → IsJobOf j k out new bytes → IsJobAt j out new
+names_of j k out new bytes job = record { at_out = job.at_out; at_new = job.at_new }
 
-pub owned : (out new bytes : List ℕ) (u : Bool) (left : Option ℕ) (i : ℕ) (before now : List Call) → Comes out new bytes u at.Start before → now ≡ reserved new left i before
-    → Comes out new bytes u (at.Owned i) now
-owned out new bytes u left i before now c e = (c.0, (left, e ∙ ap (λ cs. reserved new left i cs) c.1))
+to_led : (j : Job) (k : ℕ) (s : Stage) (cs : List Call) → LeadsTo false j k s cs → IsLed j k s cs
+to_led j k s cs l = record { moves = l.moves; path = l.path; idle = l.idle; seen = l.seen; ends = l.ends; calls = l.calls }
+
+loosen : (u : Bool) (j : Job) (k : ℕ) (s : Stage) (cs : List Call) → LeadsTo false j k s cs → LeadsTo u j k s cs
+loosen u j k s cs l = record { moves = l.moves; path = l.path; idle = l.idle; seen = unless u l.moves l.seen; ends = l.ends; calls = l.calls }
+
+-- the new file is the place's own
+owns : (out new bytes : List ℕ) (u : Bool) (i : ℕ) (cs : List Call) → Comes out new bytes u (at.Owned i) cs → (j : Job) (k : ℕ) (all : List ℕ) → IsJobOf j k out new all
+    → LeadsTo u j k (Owns i) cs
+owns out new bytes u i cs c j k all job = loosen u j k (Owns i) cs (c.1 j k (names_of j k out new all job))
+
+-- no call was made
+pub begins : (out new bytes : List ℕ) (u : Bool) (cs : List Call) → bytes ≡ [] → cs ≡ [] → Comes out new bytes u at.Start cs
+begins out new bytes u cs b e = (b, λ j k names. record { moves = []; path = tt; idle = tt; seen = tt; ends = refl; calls = e })
+
+asked : (j : Job) (k : ℕ) (p : List ℕ) {before now : List Call} → Asks p before now → LeadsTo false j k Begins before → LeadsTo false j k Begins now
+asked j k p r l = elim r [
+  | inl other ↦ by_other false j k Begins (Finds p true) other l (λ d m. refl)
+  | inr denied ↦ elim denied [
+    | inl none ↦ by_other false j k Begins (Finds p false) none l (λ d m. refl)
+    | inr failed ↦ by_other false j k Begins Fails failed l (λ d m. refl)
+  ]
+]
+
+visits : (j : Job) (k : ℕ) (p : List ℕ) (before now : List Call) → Visits p before now → LeadsTo false j k Begins before → LeadsTo false j k Begins now
+visits j k p before now r l =
+    let found : LeadsTo false j k Begins (Finds p true ∷ before) = by_other false j k Begins (Finds p true) refl l (λ d m. refl) in
+    elim r [
+      | inl other ↦ asked j k p other l
+      | inr there ↦ elim there [
+        | inl failed ↦ by_other false j k Begins Fails failed found (λ d m. refl)
+        | inr opened ↦ by_other false j k Begins (Opens p (Some opened.0)) opened.1 found (λ d m. refl)
+      ]
+    ]
+
+-- OUT was looked for
+pub visited : (out new bytes : List ℕ) (u : Bool) (before now : List Call) → Comes out new bytes u at.Start before → Visits out before now → Comes out new bytes u at.Start now
+visited out new bytes u before now c r = (c.0, λ j k names. visits j k out before now r (c.1 j k names))
+
+pub reserved_own : (out new bytes : List ℕ) (u : Bool) (left : Option ℕ) (i : ℕ) (before now : List Call) → Comes out new bytes u at.Start before → now ≡ reserved new left i before
+    → Comes out new bytes u (at.Reserved i) now
+reserved_own out new bytes u left i before now c e =
+    (c.0, λ j k names. led false j k (Owns i) (e ∙ ap (λ n. reserved n left i before) (sym names.at_new)) (owned_led j k i left (to_led j k Begins before (c.1 j k names))))
 
 pub refused : (out new bytes : List ℕ) (u : Bool) (f : Fault) (before now : List Call) → Comes out new bytes u at.Start before → Refuses f new before now
-    → Comes out new bytes u at.Over now
-refused out new bytes u f before now c r = λ j k job.
-    let here : Refuses f j.new before now = subst (λ n. Refuses f n before now) (sym job.at_new) r in
-    let p = refused_path j k f now (subst (λ cs. Refuses f j.new cs now) c.1 here) in
-    (end p.0, record { moves = p.0; path = p.1; idle = p.2; seen = unless u p.0 p.4; ends = refl; calls = p.3 })
+    → Comes out new bytes u at.Start now
+refused out new bytes u f before now c r = (
+  c.0,
+  λ j k names. led false j k Begins refl
+      (refused_anew j k f (to_led j k Begins before (c.1 j k names)) (subst (λ n. Refuses f n before now) (sym names.at_new) r)),
+)
+
+-- a call of one that has the new file, and that changes no file
+pub likened : (out new bytes : List ℕ) (u : Bool) (i : ℕ) (call : Call) (before now : List Call) → ChangesNone call → Comes out new bytes u (at.Reserved i) before
+    → now ≡ call ∷ before → Comes out new bytes u (at.Reserved i) now
+likened out new bytes u i call before now idle c e = (c.0, λ j k names. by_other false j k (Owns i) call e (c.1 j k names) idle)
+
+none_asked : (p : List ℕ) (before now : List Call) → Asks p before now → AreNone before → AreNone now
+none_asked p before now r a = elim r [
+  | inl other ↦ subst AreNone (sym other) ((λ d m. refl), a)
+  | inr denied ↦ elim denied [
+    | inl none ↦ subst AreNone (sym none) ((λ d m. refl), a)
+    | inr failed ↦ subst AreNone (sym failed) ((λ d m. refl), a)
+  ]
+]
+
+none_visits : (p : List ℕ) (before now : List Call) → Visits p before now → AreNone before → AreNone now
+none_visits p before now r a = elim r [
+  | inl other ↦ none_asked p before now other a
+  | inr there ↦ elim there [
+    | inl failed ↦ subst AreNone (sym failed) ((λ d m. refl), ((λ d m. refl), a))
+    | inr opened ↦ subst AreNone (sym opened.1) ((λ d m. refl), ((λ d m. refl), a))
+  ]
+]
+
+-- where the folder forbids the new file, no call changed a file
+pub none_made : (p : List ℕ) (before mid now : List Call) → Visits p before mid → now ≡ Fails ∷ mid → AreNone before → AreNone now
+none_made p before mid now r e a = subst AreNone (sym e) ((λ d m. refl), none_visits p before mid r a)
+
+pub none_refused : (f : Fault) (p new : List ℕ) (before mid now : List Call) → Visits p before mid → Refuses f new mid now → MakesNone (told_of f) before now
+none_refused fault.NewExists p new before mid now v r = tt
+none_refused fault.Forbidden p new before mid now v r = none_made p before mid now v r
+none_refused fault.NotMade p new before mid now v r = tt
+none_refused (fault.NotWritten n) p new before mid now v r = tt
+none_refused fault.NotSure p new before mid now v r = tt
+none_refused fault.NotRead p new before mid now v r = tt
+none_refused fault.Changed p new before mid now v r = tt
+none_refused fault.NotLooked p new before mid now v r = tt
+none_refused fault.Lost p new before mid now v r = tt
+none_refused fault.NotPut p new before mid now v r = tt
+none_refused fault.NotSynced p new before mid now v r = tt
 
 pub written : (out new bytes part whole : List ℕ) (u : Bool) (i : ℕ) (before now : List Call) → Comes out new bytes u (at.Owned i) before → now ≡ Writes i part ∷ before
     → whole ≡ bytes ++ part → Comes out new whole u (at.Written i) now
 written out new bytes part whole u i before now c e w = λ j k job x.
     let is : part ≡ j.change k x = sym (w ∙ ap (λ b. b ++ part) c.0) ∙ sym (job.makes x) in
-    by_move u j k (WritesAll x i) (e ∙ ap (λ b. Writes i b ∷ before) is) (owns u j k i out new whole c.1.0 before job c.1.1) tt tt
+    by_move u j k (WritesAll x i) (e ∙ ap (λ b. Writes i b ∷ before) is) (owns out new bytes u i before c j k whole job) tt tt
 
 pub cut : (out new bytes part whole : List ℕ) (u : Bool) (i : ℕ) (before now : List Call) → Comes out new bytes u (at.Owned i) before → now ≡ Writes i part ∷ before
     → whole ≡ bytes ++ part → Comes out new whole u (at.Broken i) now
@@ -175,7 +256,7 @@ pub landed : (out new bytes : List ℕ) (u : Bool) (call : Call) (before now : L
 landed out new bytes u call before now idle c e = λ j k job. let p = c j k job in (p.0, by_other u j k p.0 call e p.1 idle)
 
 pub gives_owned : (out new bytes : List ℕ) (u : Bool) (i : ℕ) (cs : List Call) → Comes out new bytes u (at.Owned i) cs → Comes out new bytes u (at.Broken i) cs
-gives_owned out new bytes u i cs c = λ j k job. record { move = GivesUp i; idle = tt; seen = tt; call = refl; leads = owns u j k i out new bytes c.1.0 cs job c.1.1 }
+gives_owned out new bytes u i cs c = λ j k job. record { move = GivesUp i; idle = tt; seen = tt; call = refl; leads = owns out new bytes u i cs c j k bytes job }
 
 pub gives_written : (out new bytes : List ℕ) (u : Bool) (i : ℕ) (cs : List Call) → Comes out new bytes u (at.Written i) cs → Comes out new bytes u (at.Broken i) cs
 gives_written out new bytes u i cs c = λ j k job. record { move = Withdraws None i IsWhole; idle = tt; seen = tt; call = refl; leads = c j k job None }
@@ -214,8 +295,9 @@ on_path u j k s cs l = (l.moves, l.path, l.idle, l.calls, l.seen)
 
 pub each_on_path : (out new bytes : List ℕ) (u : Bool) (a : At) (cs : List Call) → Comes out new bytes u a cs → (j : Job) (k : ℕ) → IsJobOf j k out new bytes
     → (ms : List Move) × IsPath ms × AreIdle ms × (cs ≡ calls_of j k ms) × HasReadUnless u ms
-each_on_path out new bytes u at.Start cs c j k job = ([], tt, tt, c.1, unless u [] tt)
-each_on_path out new bytes u (at.Owned i) cs c j k job = on_path u j k (Owns i) cs (owns u j k i out new bytes c.1.0 cs job c.1.1)
+each_on_path out new bytes u at.Start cs c j k job = on_path u j k Begins cs (loosen u j k Begins cs (c.1 j k (names_of j k out new bytes job)))
+each_on_path out new bytes u (at.Reserved i) cs c j k job = on_path u j k (Owns i) cs (owns out new bytes u i cs c j k bytes job)
+each_on_path out new bytes u (at.Owned i) cs c j k job = on_path u j k (Owns i) cs (owns out new bytes u i cs c j k bytes job)
 each_on_path out new bytes u (at.Written i) cs c j k job = on_path u j k (Fills None i IsWhole) cs (c j k job None)
 each_on_path out new bytes u (at.Synced i) cs c j k job = on_path u j k (Fills None i IsSynced) cs (c j k job None)
 each_on_path out new bytes u (at.Ready i) cs c j k job = on_path u j k (Fills c.0 i (checked c.0)) cs (c.1.1 j k job)

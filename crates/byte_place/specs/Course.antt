@@ -1,8 +1,7 @@
 -- Which calls a place has made when it has come this far.
 use Rattle.std.specs.Prelude.{◌≡◌, ℕ, Bool, true, false, List, [], Option, Some, None}
 use Rattle.byte_system.specs.Disk.{Content, Call, Unlinks}
-use Rattle.byte_protocol.specs.Replacing.{reserved}
-use Rattle.byte_protocol.specs.Protocol.{Job, Move, Stage, Fills, Progress, IsWhole, IsSynced, FoundSame, from, call_of, end, IsPath, AreIdle, IsIdle, IsRead, calls_of}
+use Rattle.byte_protocol.specs.Protocol.{Job, Move, Stage, Begins, Owns, Fills, Progress, IsWhole, IsSynced, FoundSame, from, call_of, end, IsPath, AreIdle, IsIdle, IsRead, calls_of}
 use Rattle.byte_protocol.specs.Unread.{HasRead}
 use Rattle.byte_place.specs.declared.progress.At.{At}
 use Rattle.byte_place.specs.declared.progress.At.TheVariants as at
@@ -20,6 +19,11 @@ pub record LeadsTo (unread : Bool) (j : Job) (k : ℕ) (s : Stage) (cs : List Ca
   pub seen : HasReadUnless unread moves
   pub ends : end moves ≡ s
   pub calls : cs ≡ calls_of j k moves
+
+-- the names are these
+pub record IsJobAt (j : Job) (out new : List ℕ) : Type 0 where
+  pub at_out : j.out ≡ out
+  pub at_new : j.new ≡ new
 
 -- the names are these, and process k makes these bytes of whatever it has read
 pub record IsJobOf (j : Job) (k : ℕ) (out new bytes : List ℕ) : Type 0 where
@@ -48,8 +52,9 @@ pub record IsRemovable (unread : Bool) (j : Job) (k : ℕ) (cs : List Call) : Ty
 -- the calls of the place of OUT that has taken these bytes, may put them unread or not, and has come this far: those of a path of
 -- the protocol
 abbrev pub Comes : List ℕ → List ℕ → List ℕ → Bool → At → List Call → Type 0
-Comes out new bytes unread at.Start cs = (bytes ≡ []) × (cs ≡ [])
-Comes out new bytes unread (at.Owned i) cs = (bytes ≡ []) × ((left : Option ℕ) × (cs ≡ reserved new left i []))
+Comes out new bytes unread at.Start cs = (bytes ≡ []) × ((j : Job) (k : ℕ) → IsJobAt j out new → LeadsTo false j k Begins cs)
+Comes out new bytes unread (at.Reserved i) cs = (bytes ≡ []) × ((j : Job) (k : ℕ) → IsJobAt j out new → LeadsTo false j k (Owns i) cs)
+Comes out new bytes unread (at.Owned i) cs = (bytes ≡ []) × ((j : Job) (k : ℕ) → IsJobAt j out new → LeadsTo false j k (Owns i) cs)
 Comes out new bytes unread (at.Written i) cs = (j : Job) (k : ℕ) → IsJobOf j k out new bytes → (x : Content) → LeadsTo unread j k (Fills x i IsWhole) cs
 Comes out new bytes unread (at.Synced i) cs = (j : Job) (k : ℕ) → IsJobOf j k out new bytes → (x : Content) → LeadsTo unread j k (Fills x i IsSynced) cs
 Comes out new bytes unread (at.Ready i) cs =

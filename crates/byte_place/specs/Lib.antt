@@ -1,2 +1,4 @@
 pub mod Course
 pub mod Steps
+pub mod Turns
+pub mod Either

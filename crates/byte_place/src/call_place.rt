@@ -1,17 +1,18 @@
 //! The place of a file that is replaced by a new one beside it.
 
-ghost use Rattle.std.specs.Prelude.{◌≡◌, [], None, IsSome, true, false};
+ghost use Rattle.std.specs.Prelude.{◌≡◌, [], None, IsSome, IfErr, true, false};
 ghost use Rattle.byte_io.specs.Device.{target_of};
 ghost use Rattle.byte_out.specs.Place.{untold, PutsOnly};
 ghost use Rattle.byte_system.specs.System.{calls};
 ghost use Rattle.byte_place.specs.Course.{Comes};
+ghost use Rattle.byte_place.specs.Steps.{MakesNone};
 
-use crate::progress::At;
-use crate::steps::{make_fault, put_own, remove_own};
+use crate::progress::{At, ReserveFault};
+use crate::steps::{make_fault, mode_for, put_own, remove_own, reserve_fault, visit};
 use byte_io::{DeviceFault, Log, Tally, WriteFault};
 use byte_out::{CompareFault, MakeFault, Place, PutFault};
 use byte_protocol::reserve;
-use byte_system::{FolderFault, System};
+use byte_system::{FolderFault, ReadFault, System};
 
 /// The place of a file that is replaced by a new one beside it. It makes no call that is not in turn: what comes too early or too
 /// late fails, or does nothing. So whatever is done with it, its calls are a path of the protocol.
@@ -49,6 +50,81 @@ impl<'a, S: System + Drop> CallPlace<'a, S> {
             failures: Tally::none(),
             openings: Tally::none(),
         }
+    }
+
+    /// Makes and locks the new file, before the old one is read; `make` then finds it. After a fault it can be tried again.
+    pub fn reserve(&mut self) -> Result<(), ReserveFault>
+        ensures same { ⟦<CallPlace<'a, S> as Place>⟧.state self.new ≡ ⟦<CallPlace<'a, S> as Place>⟧.state self.old }
+        ensures fault { IfErr result (λ e. MakesNone e (calls (S.state self.old.system)) (calls (S.state self.new.system))) }
+    {
+        let At::Start = self.at else {
+            return Ok(());
+        };
+        let Ok(is_there) = visit(&mut self.system, self.out) else {
+            return Err(ReserveFault::NotOpened);
+        };
+        let made = match reserve(&mut self.system, self.beside, mode_for(is_there)) {
+            Ok(made) => made,
+            Err(fault) => return Err(reserve_fault(fault)),
+        };
+        self.at = At::Reserved(made.file);
+        if !is_there {
+            return Ok(());
+        }
+        if !self.likens() {
+            return Err(ReserveFault::Unlike);
+        }
+        Ok(())
+    }
+
+    /// The system, on which the place makes no more calls.
+    pub fn into_system(self) -> S
+        ensures { result ≡ self.entry.system }
+    {
+        let CallPlace {
+            system,
+            out: _,
+            beside: _,
+            at: _,
+            unread: _,
+            taken: _,
+            failures: _,
+            openings: _,
+        } = self;
+        system
+    }
+
+    // Opens the new file to the same people as the old one. Otherwise it is removed.
+    fn likens(&mut self) -> bool
+        ensures { ⟦<CallPlace<'a, S> as Place>⟧.state self.new ≡ ⟦<CallPlace<'a, S> as Place>⟧.state self.old }
+    {
+        let At::Reserved(file) = self.at else {
+            return false;
+        };
+        match self.system.make_alike(file, self.out) {
+            Ok(true) => true,
+            Ok(false) => {
+                self.at = At::Broken(file);
+                self.clear();
+                false
+            }
+            Err(_) => {
+                self.at = At::Broken(file);
+                self.clear();
+                false
+            }
+        }
+    }
+
+    // Removes the new file, which can only be removed.
+    fn clear(&mut self)
+        ensures { ⟦<CallPlace<'a, S> as Place>⟧.state self.new ≡ ⟦<CallPlace<'a, S> as Place>⟧.state self.old }
+    {
+        let At::Broken(file) = self.at else {
+            return;
+        };
+        remove_own(&mut self.system, file, self.beside);
+        self.at = At::Over;
     }
 
     // A file that was not read is not compared.
@@ -97,6 +173,7 @@ impl<'a, S: System + Drop> CallPlace<'a, S> {
         ensures { ⟦<CallPlace<'a, S> as Place>⟧.state self.new ≡ ⟦<CallPlace<'a, S> as Place>⟧.state self.old }
     {
         match self.at {
+            At::Reserved(file) => self.at = At::Broken(file),
             At::Owned(file) => self.at = At::Broken(file),
             At::Written(file) => self.at = At::Broken(file),
             At::Synced(file) => self.at = At::Broken(file),
@@ -119,22 +196,17 @@ impl<'a, S: System + Drop> Place for CallPlace<'a, S> {
     } };
 
     fn make(&mut self) -> Result<(), MakeFault> {
-        let At::Start = self.at else {
+        if let Err(fault) = self.reserve() {
+            self.failures = Tally::after(&self.failures);
+            return Err(make_fault(fault));
+        }
+        let At::Reserved(file) = self.at else {
             self.failures = Tally::after(&self.failures);
             return Err(MakeFault::NotOpened);
         };
-        match reserve(&mut self.system, self.beside) {
-            Ok(made) => {
-                self.at = At::Owned(made.file);
-                self.openings = Tally::after(&self.openings);
-                Ok(())
-            }
-            Err(fault) => {
-                self.at = At::Over;
-                self.failures = Tally::after(&self.failures);
-                Err(make_fault(fault))
-            }
-        }
+        self.at = At::Owned(file);
+        self.openings = Tally::after(&self.openings);
+        Ok(())
     }
 
     fn write(&mut self, bytes: &[u8]) -> Result<(), WriteFault> {
@@ -184,10 +256,15 @@ impl<'a, S: System + Drop> Place for CallPlace<'a, S> {
                 self.at = At::Broken(file);
                 Err(CompareFault::Changed)
             }
-            Err(_) => {
+            Err(ReadFault::NotOpened) => {
                 self.at = At::Broken(file);
                 self.failures = Tally::after(&self.failures);
                 Err(CompareFault::NotOpened)
+            }
+            Err(ReadFault::Cut(count)) => {
+                self.at = At::Broken(file);
+                self.failures = Tally::after(&self.failures);
+                Err(CompareFault::ReadFailed(count))
             }
         }
     }
@@ -214,10 +291,6 @@ impl<'a, S: System + Drop> Place for CallPlace<'a, S> {
 
     fn remove(&mut self) {
         self.gives_up();
-        let At::Broken(file) = self.at else {
-            return;
-        };
-        remove_own(&mut self.system, file, self.beside);
-        self.at = At::Over;
+        self.clear();
     }
 }

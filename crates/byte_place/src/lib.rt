@@ -2,13 +2,18 @@
 #![tactic(auto)]
 
 mod call_place;
+mod either_place;
 mod laws;
 mod new_place;
 mod progress;
 mod steps;
 #[cfg(test)]
 mod tests;
+mod within_place;
 
 pub use call_place::CallPlace;
-pub use laws::its_calls_are_a_path;
+pub use either_place::EitherPlace;
+pub use laws::{its_calls_are_a_path, its_calls_are_a_round};
 pub use new_place::NewPlace;
+pub use progress::ReserveFault;
+pub use within_place::WithinPlace;

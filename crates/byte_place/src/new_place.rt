@@ -6,7 +6,7 @@ ghost use Rattle.byte_out.specs.Place.{untold};
 
 use byte_io::{DeviceFault, Log, Tally, WriteFault};
 use byte_out::{CompareFault, MakeFault, Place, PutFault};
-use byte_system::{FolderFault, System};
+use byte_system::{FolderFault, Mode, System};
 
 /// The place of a file that does not exist yet, such as a new office file. It is made with its name.
 #[derive(Drop)]
@@ -51,7 +51,7 @@ impl<S: System + Drop> Place for NewPlace<'_, S> {
 
     fn make(&mut self) -> Result<(), MakeFault> {
         // The file is made with its name: never over another file, nor through a link.
-        match self.system.make(self.path) {
+        match self.system.make(self.path, Mode::Usual) {
             Ok(file) => {
                 self.openings = Tally::after(&self.openings);
                 self.file = Some(file);

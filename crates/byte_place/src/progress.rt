@@ -1,11 +1,13 @@
-//! How far a place has come.
+//! How far a place has come, and why there is no new file.
 
 /// How far a place has come. A number is that of its new file, which it has made and locked.
 #[derive(Clone, Copy, Debug, PartialEq, Eq)]
 pub(crate) enum At {
-    /// No call was made.
+    /// There is no new file.
     Start,
-    /// The new file is empty.
+    /// The new file was made before the place was told to.
+    Reserved(usize),
+    /// It is empty.
     Owned(usize),
     /// It has all bytes that the place took.
     Written(usize),
@@ -18,4 +20,26 @@ pub(crate) enum At {
     Put,
     /// There is nothing more to do.
     Over,
+}
+
+/// How far a place has come that is written in place. A number is that of the file, which the place has locked.
+#[derive(Clone, Copy, Debug, PartialEq, Eq)]
+pub(crate) enum Within {
+    Start,
+    Locked(usize),
+    /// The file may be written.
+    Ready(usize),
+    Over,
+}
+
+/// Why there is no new file.
+#[derive(Clone, Copy, Debug, PartialEq, Eq)]
+pub enum ReserveFault {
+    /// Another process has it.
+    Exists,
+    /// No file with its name can be made in its folder.
+    Forbidden,
+    /// It cannot be opened to the same people as the old one.
+    Unlike,
+    NotOpened,
 }

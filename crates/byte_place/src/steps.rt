@@ -1,18 +1,81 @@
-//! The calls by which a place puts its new file in place, or removes it.
+//! The calls by which a place looks at the old file, puts its new file in place, or removes it.
 
-ghost use Rattle.std.specs.Prelude.{◌≡◌, OnOk, IfErr};
+ghost use Rattle.std.specs.Prelude.{◌≡◌, ◌≤◌, ◌∷◌, OnOk, OnErr, IfOk, IfErr};
+ghost use Rattle.byte_system.specs.Disk.{Finds};
 ghost use Rattle.byte_system.specs.System.{GoesOn, calls};
-ghost use Rattle.byte_place.specs.Steps.{Clears, Unrenamed, renamed};
+ghost use Rattle.byte_protocol.specs.Replacing.{Asks};
+ghost use Rattle.byte_place.specs.Steps.{Clears, Unrenamed, Visits, renamed, told_of};
 
+use crate::progress::ReserveFault;
 use byte_out::{MakeFault, PutFault};
-use byte_protocol::Fault;
-use byte_system::System;
+use byte_protocol::{Fault, WriteFault};
+use byte_system::{Failed, Mode, System, There};
 
 /// Why no new file was made, as places tell it.
-pub(crate) fn make_fault(fault: Fault) -> MakeFault {
+pub(crate) fn make_fault(fault: ReserveFault) -> MakeFault {
     match fault {
-        Fault::NewExists => MakeFault::Exists,
-        _ => MakeFault::NotOpened,
+        ReserveFault::Exists => MakeFault::Exists,
+        ReserveFault::Forbidden | ReserveFault::Unlike | ReserveFault::NotOpened => {
+            MakeFault::NotOpened
+        }
+    }
+}
+
+/// Why there is no new file.
+pub(crate) fn reserve_fault(fault: Fault) -> ReserveFault
+    ensures { result ≡ told_of fault }
+{
+    match fault {
+        Fault::NewExists => ReserveFault::Exists,
+        Fault::Forbidden => ReserveFault::Forbidden,
+        Fault::NotMade => ReserveFault::NotOpened,
+        Fault::NotWritten(_) => ReserveFault::NotOpened,
+        Fault::NotSure => ReserveFault::NotOpened,
+        Fault::NotRead => ReserveFault::NotOpened,
+        Fault::Changed => ReserveFault::NotOpened,
+        Fault::NotLooked => ReserveFault::NotOpened,
+        Fault::Lost => ReserveFault::NotOpened,
+        Fault::NotPut => ReserveFault::NotOpened,
+        Fault::NotSynced => ReserveFault::NotOpened,
+    }
+}
+
+/// Until the new file is opened to the same people as an old one, only its owner can open it.
+pub(crate) fn mode_for(is_there: bool) -> Mode {
+    if is_there {
+        return Mode::Private;
+    }
+    Mode::Usual
+}
+
+/// Whether there is an old file. It has to be a plain file that opens for writing, as if it were written in place.
+pub(crate) fn visit<S: System>(system: &mut S, out: &[u8]) -> Result<bool, Failed>
+    ensures goes { GoesOn (S.state system.old) (S.state system.new) }
+    ensures visits { Visits out.now (calls (S.state system.old)) (calls (S.state system.new)) }
+{
+    match find(system, out) {
+        Ok(true) => {}
+        Ok(false) => return Ok(false),
+        Err(_) => return Err(Failed),
+    }
+    match system.open(out) {
+        Ok(_) => Ok(true),
+        Err(_) => Err(Failed),
+    }
+}
+
+// Whether there is a plain file.
+fn find<S: System>(system: &mut S, out: &[u8]) -> Result<bool, Failed>
+    ensures goes { GoesOn (S.state system.old) (S.state system.new) }
+    ensures ok { IfOk result (λ b. calls (S.state system.new) ≡ Finds out.now b ∷ calls (S.state system.old)) }
+    ensures err { OnErr result (Asks out.now (calls (S.state system.old)) (calls (S.state system.new))) }
+{
+    match system.look(out) {
+        Ok(There::Nothing) => Ok(false),
+        Ok(There::Sole) => Ok(true),
+        Ok(There::Shared) => Ok(true),
+        Ok(There::Other) => Err(Failed),
+        Err(_) => Err(Failed),
     }
 }
 
@@ -49,4 +112,15 @@ pub(crate) fn remove_own<S: System>(system: &mut S, file: usize, new: &[u8])
         Err(_) => return,
     }
     let _ = system.unlink(new);
+}
+
+/// How many of the bytes a file has that was not filled. If it has all of them, they may not be sure.
+pub(crate) fn written(fault: WriteFault, whole: usize) -> usize
+    ensures { result ≤ whole }
+{
+    match fault {
+        WriteFault::NotWritten(count) => count.min(whole),
+        WriteFault::NotSure => whole,
+        _ => 0,
+    }
 }

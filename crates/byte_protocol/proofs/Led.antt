@@ -1,8 +1,8 @@
 -- Calls that lead a process along the protocol, one after another.
 use Rattle.std.proofs.Common.{◌≡◌, ℕ, true, List, [], ◌∷◌, Option, Some, None, refl, ap}
-use Rattle.byte_system.specs.Disk.{Content, Call, Makes, Opens, Looks, Writes, Syncs, Renames}
+use Rattle.byte_system.specs.Disk.{Content, Call, Makes, Opens, Looks, Finds, Writes, Syncs, Renames}
 use Rattle.byte_protocol.specs.Replacing.{entered, begun, reserved, compared, ready}
-use Rattle.byte_protocol.specs.Protocol.{Progress, IsWhole, IsSynced, FoundSame, Stage, Begins, Owns, Fills, Sweeps, Replaced, ReplacedUnread, Move, MakesNew, LocksOwn, FindsOwn, WritesAll, SyncsNew, FindsSame, Puts, PutsUnread, LocksLeft, FindsLeft, SweepsLeft, Strays, Job, from, to, call_of, end, IsPath, calls_of, ChangesNone, IsIdle, AreIdle, IsRead, finished}
+use Rattle.byte_protocol.specs.Protocol.{Progress, IsWhole, IsSynced, FoundSame, Stage, Begins, Owns, Fills, Sweeps, Replaced, ReplacedUnread, Move, MakesNew, LocksOwn, FindsOwn, WritesAll, SyncsNew, FindsSame, Puts, PutsUnread, LocksLeft, FindsLeft, SweepsLeft, Strays, Forgets, Job, from, to, call_of, end, IsPath, calls_of, ChangesNone, IsIdle, AreIdle, IsRead, finished}
 use Rattle.byte_protocol.specs.Unread.{HasRead, HasReadIf}
 
 -- moves that make these calls and lead to this stage, change no file by other calls, and put no file unread
@@ -33,15 +33,30 @@ then_by j k m l idle seen = record {
 pub then_other : (j : Job) (k : ℕ) (s : Stage) (c : Call) {before : List Call} → IsLed j k s before → ChangesNone c → IsLed j k s (c ∷ before)
 then_other j k s c l idle = then_by j k (Strays s c) l idle tt
 
+-- and after which it begins anew
+pub then_anew : (j : Job) (k : ℕ) (s : Stage) (c : Call) {before : List Call} → IsLed j k s before → ChangesNone c → IsLed j k Begins (c ∷ before)
+then_anew j k s c l idle = then_by j k (Forgets s c) l idle tt
+
 pub entered_led : (j : Job) (k n : ℕ) {before : List Call} → IsLed j k Begins before → IsLed j k (Sweeps n) (entered j.new n before)
 entered_led j k n l = then_by j k (FindsLeft n) (then_by j k (LocksLeft n) (then_other j k Begins (Opens j.new (Some n)) l (λ d m. refl)) tt tt) tt tt
 
-pub begun_led : (j : Job) (k : ℕ) (left : Option ℕ) → IsLed j k Begins (begun j.new left [])
-begun_led j k None = nothing j k
-begun_led j k (Some n) = then_by j k (SweepsLeft n) (entered_led j k n (then_other j k Begins (Makes j.new None) (nothing j k) (λ d m. refl))) tt tt
+-- a file with the new name is there
+pub found_led : (j : Job) (k : ℕ) {before : List Call} → IsLed j k Begins before → IsLed j k Begins (Finds j.new true ∷ before)
+found_led j k l = then_other j k Begins (Finds j.new true) l (λ d m. refl)
+
+-- and could not be made anew
+pub made_led : (j : Job) (k : ℕ) {before : List Call} → IsLed j k Begins before → IsLed j k Begins (Makes j.new None ∷ before)
+made_led j k l = then_other j k Begins (Makes j.new None) l (λ d m. refl)
+
+pub begun_led : (j : Job) (k : ℕ) (left : Option ℕ) {before : List Call} → IsLed j k Begins before → IsLed j k Begins (begun j.new left before)
+begun_led j k None l = l
+begun_led j k (Some n) l = then_by j k (SweepsLeft n) (entered_led j k n (found_led j k (made_led j k l))) tt tt
+
+pub owned_led : (j : Job) (k i : ℕ) (left : Option ℕ) {before : List Call} → IsLed j k Begins before → IsLed j k (Owns i) (reserved j.new left i before)
+owned_led j k i left l = then_by j k (FindsOwn i) (then_by j k (LocksOwn i) (then_by j k (MakesNew i) (begun_led j k left l) tt tt) tt tt) tt tt
 
 pub reserved_led : (j : Job) (k i : ℕ) (left : Option ℕ) → IsLed j k (Owns i) (reserved j.new left i [])
-reserved_led j k i left = then_by j k (FindsOwn i) (then_by j k (LocksOwn i) (then_by j k (MakesNew i) (begun_led j k left) tt tt) tt tt) tt tt
+reserved_led j k i left = owned_led j k i left (nothing j k)
 
 pub written_led : (j : Job) (k i : ℕ) (left : Option ℕ) (x : Content) → IsLed j k (Fills x i IsWhole) (Writes i (j.change k x) ∷ reserved j.new left i [])
 written_led j k i left x = then_by j k (WritesAll x i) (reserved_led j k i left) tt tt

@@ -2,7 +2,7 @@
 use Rattle.std.proofs.Common.{◌≡◌, ◌≢◌, ◌⊎◌, inl, inr, ℕ, Bool, true, false, List, [], ◌∷◌, ◌++◌, Option, Some, None, bytes_eq, eqb, refl, sym, ◌∙◌, ap, subst, cond}
 use Rattle.std.proofs.lemmas.Bool.Decides.{eqb_tells}
 use lib.Pointwise.{bytes_decides}
-use Rattle.byte_system.specs.Disk.{Content, content_of, content, named, Disk, Event, Call, Makes, Opens, Locks, Looks, Writes, Truncates, Syncs, Reads, Compares, Renames, Unlinks, SyncsFolder, Fails, Ends, step, after}
+use Rattle.byte_system.specs.Disk.{Content, content_of, content, named, Disk, Event, Call, Makes, Opens, Locks, Looks, Writes, Truncates, Syncs, Reads, Compares, Renames, Unlinks, SyncsFolder, Finds, Likens, Fails, Ends, step, after}
 use Rattle.byte_protocol.specs.Protocol.{IsWhole, IsSynced, FoundSame, IsPart, Stage, Begins, HasMade, HasLocked, Owns, Fills, HasLeft, Sweeps, Replaced, ReplacedUnread, Ended, Move, MakesNew, LocksOwn, FindsOwn, GivesUp, WritesAll, WritesPart, SyncsNew, FindsSame, Puts, PutsUnread, Withdraws, LocksLeft, FindsLeft, SweepsLeft, Strays, Forgets, Dies, Job, from, dead, to, finds_call, call_of, IsFair, Deed, events, stages, Follows, IsStart, AreRead}
 use Rattle.byte_protocol.specs.Unread.{UnreadHave}
 use Rattle.byte_protocol.specs.Cuts.{clean_after, is_clean, MayLead, IsLeft, IsSince, WasAt, written, Spares, AreSparing}
@@ -67,6 +67,8 @@ leaves d k i (Compares p bs t) ne = idle d k i (Compares p bs t) refl (λ b. ref
 leaves d k i (Renames p q) ne = idle d k i (Renames p q) refl (λ b. refl)
 leaves d k i (Unlinks p) ne = idle d k i (Unlinks p) refl (λ b. refl)
 leaves d k i (SyncsFolder p) ne = idle d k i (SyncsFolder p) refl (λ b. refl)
+leaves d k i (Finds p t) ne = idle d k i (Finds p t) refl (λ b. refl)
+leaves d k i (Likens n p) ne = idle d k i (Likens n p) refl (λ b. refl)
 leaves d k i Fails ne = idle d k i Fails refl (λ b. refl)
 leaves d k i Ends ne = idle d k i Ends refl (λ b. refl)
 

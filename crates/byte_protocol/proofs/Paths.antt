@@ -9,7 +9,7 @@ use Rattle.byte_protocol.specs.Unread.{HasRead, HasReadIf}
 use Rattle.byte_protocol.proofs.Kept.{same_number, numbered_at, numbered_other}
 use Rattle.byte_protocol.proofs.Led.{put_led, put_then}
 
-own_here : (e : Event) (es : List Event) → own e.by (e ∷ es) ≡ e.call ∷ own e.by es
+pub own_here : (e : Event) (es : List Event) → own e.by (e ∷ es) ≡ e.call ∷ own e.by es
 own_here e es = ap (λ b. cond b (e.call ∷ own e.by es) (own e.by es)) (same_number e.by)
 
 pub own_other : (k : ℕ) (e : Event) (es : List Event) → e.by ≢ k → own k (e ∷ es) ≡ own k es
@@ -19,11 +19,11 @@ own_other k e es ne =
       | inr (f, other) ↦ ap (λ b. cond b (e.call ∷ own k es) (own k es)) f
     ]
 
-abbrev first_call : Call → List Call → Call
+abbrev pub first_call : Call → List Call → Call
 first_call d [] = d
 first_call d (c ∷ cs) = c
 
-abbrev tail : List Call → List Call
+abbrev pub tail : List Call → List Call
 tail [] = []
 tail (c ∷ cs) = cs
 

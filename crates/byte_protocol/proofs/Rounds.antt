@@ -1,107 +1,164 @@
 -- The calls of a process that writes OUT in place are turns, one after another.
-use Rattle.std.proofs.Common.{◌≡◌, inl, inr, ℕ, Bool, true, false, List, [], ◌∷◌, Some, length, take, refl, sym, ◌∙◌, ap, subst}
+use Rattle.std.proofs.Common.{◌≡◌, inl, inr, ℕ, Bool, true, false, List, [], ◌∷◌, Option, Some, None, length, take, refl, sym, ◌∙◌, ap, subst}
 use Rattle.std.proofs.Math.Seq.{take-length}
-use Rattle.byte_system.specs.Disk.{Call, Opens, Locks, Looks, Writes, Syncs, Compares, Fails}
+use Rattle.byte_system.specs.Disk.{Content, Call, Opens, Locks, Looks, Writes, Truncates, Syncs, Compares, Fails}
 use Rattle.byte_protocol.specs.declared.within.WriteFault.{WriteFault}
 use Rattle.byte_protocol.specs.declared.within.WriteFault.TheVariants as fault
 use Rattle.byte_protocol.specs.Protocol.{ChangesNone}
-use Rattle.byte_protocol.specs.Replacing.{entered, Denies, Disowns, Unentered}
-use Rattle.byte_protocol.specs.Overwriting.{emptied, overwriting, Breaks, Falters}
-use Rattle.byte_protocol.specs.InPlace.{Phase, Starts, HasLock, HasOut, HasSame, HasPart, Turn, LocksOut, FindsOut, ComparesOut, EmptiesOut, WritesOut, DoesOther, Task, leaves_from, leads_to, turn_call, last_phase, IsRound, round_calls, IsCalm, AreCalm}
+use Rattle.byte_protocol.specs.Replacing.{entered, compared, Denies, Disowns, Unentered}
+use Rattle.byte_protocol.specs.Overwriting.{filling, overwriting, Spills, Falters}
+use Rattle.byte_protocol.specs.InPlace.{Phase, Starts, HasLock, HasOut, HasSame, HasPart, Turn, LocksOut, FindsOut, ComparesOut, EmptiesOut, WritesOut, DoesOther, Task, checked_phase, leaves_from, leads_to, turn_call, last_phase, IsRound, round_calls, IsCalm, AreCalm, IsReadTurn, AreReadTurns, AreReadUnless, is_unread, MayEmpty, Reaches}
 
--- turns that make these calls and lead to this phase, and that change no file by other calls
-record IsGone (t : Task) (k : ℕ) (s : Phase) (now : List Call) : Type 0 where
-  turns : List Turn
-  round : IsRound turns
-  calm : AreCalm turns
-  ends : last_phase turns ≡ s
-  calls : now ≡ round_calls t k turns
+pub nothing_done : (t : Task) (k : ℕ) → Reaches t k false Starts []
+nothing_done t k = record { turns = []; round = tt; calm = tt; seen = tt; ends = refl; calls = refl }
 
-one_more : (t : Task) (k : ℕ) (m : Turn) {before : List Call} → IsGone t k (leaves_from m) before → IsCalm m → IsGone t k (leads_to m) (turn_call t k m ∷ before)
-one_more t k m g calm = record {
+more_seen : (u : Bool) (m : Turn) (ms : List Turn) → AreReadUnless u ms → IsReadTurn m → AreReadUnless u (m ∷ ms)
+more_seen true m ms s r = tt
+more_seen false m ms s r = (s, r)
+
+one_more : (t : Task) (k : ℕ) (u : Bool) (m : Turn) {before : List Call} → Reaches t k u (leaves_from m) before → IsCalm m → IsReadTurn m
+    → Reaches t k u (leads_to m) (turn_call t k m ∷ before)
+one_more t k u m g calm read = record {
   turns = m ∷ g.turns;
   round = (g.round, g.ends);
   calm = (g.calm, calm);
+  seen = more_seen u m g.turns g.seen read;
   ends = refl;
   calls = ap (λ cs. turn_call t k m ∷ cs) g.calls;
 }
 
-one_other : (t : Task) (k : ℕ) (s : Phase) (c : Call) {before : List Call} → IsGone t k s before → ChangesNone c → IsGone t k s (c ∷ before)
-one_other t k s c g idle = one_more t k (DoesOther s c) g idle
+pub one_other : (t : Task) (k : ℕ) (u : Bool) (s : Phase) (c : Call) {before : List Call} → Reaches t k u s before → ChangesNone c → Reaches t k u s (c ∷ before)
+one_other t k u s c g idle = one_more t k u (DoesOther s c) g idle tt
 
-opened_gone : (t : Task) (k i : ℕ) → IsGone t k Starts (Opens t.out (Some i) ∷ [])
-opened_gone t k i = one_other t k Starts (Opens t.out (Some i)) (record { turns = []; round = tt; calm = tt; ends = refl; calls = refl }) (λ d m. refl)
+pub reach_as : (t : Task) (k : ℕ) (u : Bool) (s : Phase) {known now : List Call} → now ≡ known → Reaches t k u s known → Reaches t k u s now
+reach_as t k u s e g = record { turns = g.turns; round = g.round; calm = g.calm; seen = g.seen; ends = g.ends; calls = e ∙ g.calls }
 
-entered_gone : (t : Task) (k i : ℕ) → IsGone t k (HasOut i) (entered t.out i [])
-entered_gone t k i = one_more t k (FindsOut i) (one_more t k (LocksOut i) (opened_gone t k i) tt) tt
+-- one that has read OUT, as one that may not have
+unless_seen : (u : Bool) (ms : List Turn) → AreReadTurns ms → AreReadUnless u ms
+unless_seen true ms r = tt
+unless_seen false ms r = r
 
-same_gone : (t : Task) (k i : ℕ) (x : List ℕ) → IsGone t k (HasSame x i) (Compares t.out x true ∷ entered t.out i [])
-same_gone t k i x = one_more t k (ComparesOut x i) (entered_gone t k i) tt
+pub loosened : (t : Task) (k : ℕ) (u : Bool) (s : Phase) (cs : List Call) → Reaches t k false s cs → Reaches t k u s cs
+loosened t k u s cs g = record { turns = g.turns; round = g.round; calm = g.calm; seen = unless_seen u g.turns g.seen; ends = g.ends; calls = g.calls }
 
-part_gone : (t : Task) (k i n : ℕ) (x : List ℕ) → IsGone t k (HasPart x i n) (Writes i (take n (t.change k x)) ∷ emptied t.out i x (entered t.out i []))
-part_gone t k i n x = one_more t k (WritesOut x i n) (one_more t k (EmptiesOut x i) (same_gone t k i x) tt) tt
+opened_gone : (t : Task) (k i : ℕ) {before : List Call} → Reaches t k false Starts before → Reaches t k false Starts (Opens t.out (Some i) ∷ before)
+opened_gone t k i g = one_other t k false Starts (Opens t.out (Some i)) g (λ d m. refl)
 
-abbrev MakesRound : Task → ℕ → List Call → Type 0
-MakesRound t k now = (ms : List Turn) × IsRound ms × AreCalm ms × (now ≡ round_calls t k ms)
+pub entered_gone : (t : Task) (k i : ℕ) {before : List Call} → Reaches t k false Starts before → Reaches t k false (HasOut i) (entered t.out i before)
+entered_gone t k i g = one_more t k false (FindsOut i) (one_more t k false (LocksOut i) (opened_gone t k i g) tt tt) tt tt
 
-is_round : (t : Task) (k : ℕ) (s : Phase) {known now : List Call} → now ≡ known → IsGone t k s known → MakesRound t k now
-is_round t k s e g = (g.turns, g.round, g.calm, e ∙ g.calls)
+pub checked_gone : (t : Task) (k i : ℕ) (read : Content) {before : List Call} → Reaches t k false (HasOut i) before → Reaches t k false (checked_phase read i) (compared t.out read before)
+checked_gone t k i None g = g
+checked_gone t k i (Some x) g = one_more t k false (ComparesOut x i) g tt tt
 
-fails_round : (t : Task) (k : ℕ) (s : Phase) {before now : List Call} → now ≡ Fails ∷ before → IsGone t k s before → MakesRound t k now
-fails_round t k s e g = is_round t k s e (one_other t k s Fails g (λ d m. refl))
+-- an unread file may be emptied
+emptied_seen : (u : Bool) (i : ℕ) (ms : List Turn) → u ≡ true → AreReadUnless u (EmptiesOut None i ∷ ms)
+emptied_seen u i ms e = subst (λ b. AreReadUnless b (EmptiesOut None i ∷ ms)) (sym e) tt
 
-denied_round : (t : Task) (k : ℕ) (s : Phase) (call : Bool → Call) {before now : List Call} → ChangesNone (call false) → IsGone t k s before → Denies call before now → MakesRound t k now
-denied_round t k s call idle g r = elim r [
-  | inl denied ↦ is_round t k s denied (one_other t k s (call false) g idle)
-  | inr failed ↦ fails_round t k s failed g
-]
+emptied_gone : (t : Task) (k i : ℕ) (u : Bool) (read : Content) (before : List Call) → MayEmpty u read → Reaches t k false (checked_phase read i) before
+    → Reaches t k u (HasPart read i 0) (Truncates i ∷ before)
+emptied_gone t k i u None before may g = record {
+  turns = EmptiesOut None i ∷ g.turns;
+  round = (g.round, g.ends);
+  calm = (g.calm, tt);
+  seen = emptied_seen u i g.turns may;
+  ends = refl;
+  calls = ap (λ cs. Truncates i ∷ cs) g.calls;
+}
+emptied_gone t k i u (Some x) before may g = one_more t k u (EmptiesOut (Some x) i) (loosened t k u (HasSame x i) before g) tt tt
 
-disowned_round : (t : Task) (k i : ℕ) (now : List Call) → Disowns t.out i (Opens t.out (Some i) ∷ []) now → MakesRound t k now
-disowned_round t k i now r = elim r [
-  | inl unlocked ↦ denied_round t k Starts (Locks i) (λ d m. refl) (opened_gone t k i) unlocked
-  | inr unfound ↦ denied_round t k (HasLock i) (Looks t.out i) (λ d m. refl) (one_more t k (LocksOut i) (opened_gone t k i) tt) unfound
-]
-
-unentered_round : (t : Task) (k : ℕ) (now : List Call) → Unentered t.out [] now → MakesRound t k now
-unentered_round t k now r = elim r [
-  | inl failed ↦ fails_round t k Starts failed (record { turns = []; round = tt; calm = tt; ends = refl; calls = refl })
-  | inr held ↦ disowned_round t k held.0 now held.1
-]
+part_gone : (t : Task) (k i n : ℕ) (u : Bool) (read : Content) (before : List Call) → MayEmpty u read → Reaches t k false (checked_phase read i) before
+    → Reaches t k u (HasPart read i n) (Writes i (take n (t.change k read)) ∷ Truncates i ∷ before)
+part_gone t k i n u read before may g = one_more t k u (WritesOut read i n) (emptied_gone t k i u read before may g) tt tt
 
 -- all bytes are the first ones, as many as there are
-all_gone : (t : Task) (k i : ℕ) (x : List ℕ) → IsGone t k (HasPart x i (length (t.change k x))) (Writes i (t.change k x) ∷ emptied t.out i x (entered t.out i []))
-all_gone t k i x =
-    let g = part_gone t k i (length (t.change k x)) x in
-    record {
-      turns = g.turns;
-      round = g.round;
-      calm = g.calm;
-      ends = g.ends;
-      calls = ap (λ bs. Writes i bs ∷ emptied t.out i x (entered t.out i [])) (sym (take-length (t.change k x))) ∙ g.calls;
-    }
+all_gone : (t : Task) (k i : ℕ) (u : Bool) (read : Content) (before : List Call) → MayEmpty u read → Reaches t k false (checked_phase read i) before
+    → Reaches t k u (HasPart read i (length (t.change k read))) (Writes i (t.change k read) ∷ Truncates i ∷ before)
+all_gone t k i u read before may g =
+    reach_as t k u (HasPart read i (length (t.change k read))) (ap (λ bs. Writes i bs ∷ Truncates i ∷ before) (sym (take-length (t.change k read))))
+    (part_gone t k i (length (t.change k read)) u read before may g)
 
-pub faltered_round : (t : Task) (k : ℕ) (x : List ℕ) (e : WriteFault) (now : List Call) → Falters e t.out x (t.change k x) [] now → MakesRound t k now
-faltered_round t k x fault.NotOpened now r = unentered_round t k now r
-faltered_round t k x fault.NotRead now r = fails_round t k (HasOut r.0) r.1 (entered_gone t k r.0)
-faltered_round t k x fault.Changed now r = is_round t k (HasOut r.0) r.1 (one_other t k (HasOut r.0) (Compares t.out x false) (entered_gone t k r.0) (λ d m. refl))
-faltered_round t k x fault.NotEmptied now r = fails_round t k (HasSame x r.0) r.1 (same_gone t k r.0 x)
-faltered_round t k x (fault.NotWritten n) now r = is_round t k (HasPart x r.0 n) r.1 (part_gone t k r.0 n x)
-faltered_round t k x fault.NotSure now r = fails_round t k (HasPart x r.0 (length (t.change k x))) r.1 (all_gone t k r.0 x)
+pub filled_gone : (t : Task) (k i : ℕ) (u : Bool) (read : Content) (before : List Call) → MayEmpty u read → Reaches t k false (checked_phase read i) before
+    → Reaches t k u (HasPart read i (length (t.change k read))) (filling i (t.change k read) before)
+filled_gone t k i u read before may g =
+    one_other t k u (HasPart read i (length (t.change k read))) (Syncs i) (all_gone t k i u read before may g) (λ d m. refl)
 
-pub written_round : (t : Task) (k i : ℕ) (x : List ℕ) (now : List Call) → now ≡ overwriting t.out i x (t.change k x) (entered t.out i [])
-    → (ms : List Turn) × IsRound ms × AreCalm ms × (now ≡ round_calls t k ms) × (last_phase ms ≡ HasPart x i (length (t.change k x)))
-written_round t k i x now e =
-    let g = one_other t k (HasPart x i (length (t.change k x))) (Syncs i) (all_gone t k i x) (λ d m. refl) in
-    (g.turns, g.round, g.calm, e ∙ g.calls, g.ends)
+-- one that did not fill the file
+pub spilled : (t : Task) (k i : ℕ) (u : Bool) (read : Content) (e : WriteFault) (before now : List Call) → MayEmpty u read → Reaches t k false (checked_phase read i) before
+    → Spills e i (t.change k read) before now → (s : Phase) × Reaches t k u s now
+spilled t k i u read fault.NotOpened before now may g r = absurd r
+spilled t k i u read fault.NotRead before now may g r = absurd r
+spilled t k i u read fault.Changed before now may g r = absurd r
+spilled t k i u read fault.NotEmptied before now may g r =
+    let s = checked_phase read i in
+    (s, reach_as t k u s r (one_other t k u s Fails (loosened t k u s before g) (λ d m. refl)))
+spilled t k i u read (fault.NotWritten n) before now may g r = (HasPart read i n, reach_as t k u (HasPart read i n) r (part_gone t k i n u read before may g))
+spilled t k i u read fault.NotSure before now may g r =
+    let all = HasPart read i (length (t.change k read)) in
+    (all, reach_as t k u all r (one_other t k u all Fails (all_gone t k i u read before may g) (λ d m. refl)))
 
--- one that has OUT and stops does not write it whole
-pub faltered : (e : WriteFault) (out : List ℕ) (i : ℕ) (read bytes : List ℕ) (mid before now : List Call) → mid ≡ entered out i before → Breaks e out i read bytes mid now
-    → Falters e out read bytes before now
-faltered e out i read bytes mid before now is b = each e (subst (λ cs. Breaks e out i read bytes cs now) is b) where
-  each : (f : WriteFault) → Breaks f out i read bytes (entered out i before) now → Falters f out read bytes before now
-  each fault.NotOpened c = absurd c
-  each fault.NotRead c = (i, c)
-  each fault.Changed c = (i, c)
-  each fault.NotEmptied c = (i, c)
-  each (fault.NotWritten n) c = (i, c)
-  each fault.NotSure c = (i, c)
+-- one that does not have OUT
+denied_gone : (t : Task) (k : ℕ) (s : Phase) (call : Bool → Call) {before now : List Call} → ChangesNone (call false) → Reaches t k false s before → Denies call before now
+    → (q : Phase) × Reaches t k false q now
+denied_gone t k s call idle g r = elim r [
+  | inl denied ↦ (s, reach_as t k false s denied (one_other t k false s (call false) g idle))
+  | inr failed ↦ (s, reach_as t k false s failed (one_other t k false s Fails g (λ d m. refl)))
+]
+
+disowned_gone : (t : Task) (k i : ℕ) {before now : List Call} → Reaches t k false Starts before → Disowns t.out i before now → (q : Phase) × Reaches t k false q now
+disowned_gone t k i g r = elim r [
+  | inl unlocked ↦ denied_gone t k Starts (Locks i) (λ d m. refl) g unlocked
+  | inr unfound ↦ denied_gone t k (HasLock i) (Looks t.out i) (λ d m. refl) (one_more t k false (LocksOut i) g tt tt) unfound
+]
+
+pub unentered_gone : (t : Task) (k : ℕ) {before now : List Call} → Reaches t k false Starts before → Unentered t.out before now → (q : Phase) × Reaches t k false q now
+unentered_gone t k g r = elim r [
+  | inl failed ↦ (Starts, reach_as t k false Starts failed (one_other t k false Starts Fails g (λ d m. refl)))
+  | inr held ↦ disowned_gone t k held.0 (opened_gone t k held.0 g) held.1
+]
+
+abbrev MakesRound : Task → ℕ → Bool → List Call → Type 0
+MakesRound t k u now = (ms : List Turn) × IsRound ms × AreCalm ms × (now ≡ round_calls t k ms) × AreReadUnless u ms
+
+is_round : (t : Task) (k : ℕ) (u : Bool) (now : List Call) → ((s : Phase) × Reaches t k u s now) → MakesRound t k u now
+is_round t k u now g = (g.1.turns, g.1.round, g.1.calm, g.1.calls, g.1.seen)
+
+read_round : (t : Task) (k : ℕ) (u : Bool) (now : List Call) → ((s : Phase) × Reaches t k false s now) → MakesRound t k u now
+read_round t k u now g = is_round t k u now (g.0, loosened t k u g.0 now g.1)
+
+has_gone : (t : Task) (k i : ℕ) → Reaches t k false (HasOut i) (entered t.out i [])
+has_gone t k i = entered_gone t k i (nothing_done t k)
+
+may : (read : Content) → MayEmpty (is_unread read) read
+may None = refl
+may (Some x) = tt
+
+changed_round : (t : Task) (k : ℕ) (read : Content) (now : List Call) → Falters fault.Changed t.out read (t.change k read) [] now → MakesRound t k (is_unread read) now
+changed_round t k None now r = read_round t k true now (HasOut r.0, reach_as t k false (HasOut r.0) r.1 (has_gone t k r.0))
+changed_round t k (Some x) now r =
+    read_round t k false now
+    (HasOut r.0, reach_as t k false (HasOut r.0) r.1 (one_other t k false (HasOut r.0) (Compares t.out x false) (has_gone t k r.0) (λ d m. refl)))
+
+spilled_round : (t : Task) (k i : ℕ) (read : Content) (e : WriteFault) (now : List Call) → Spills e i (t.change k read) (compared t.out read (entered t.out i [])) now
+    → MakesRound t k (is_unread read) now
+spilled_round t k i read e now r =
+    is_round t k (is_unread read) now
+    (spilled t k i (is_unread read) read e (compared t.out read (entered t.out i [])) now (may read) (checked_gone t k i read (has_gone t k i)) r)
+
+pub faltered_round : (t : Task) (k : ℕ) (read : Option (List ℕ)) (e : WriteFault) (now : List Call) → Falters e t.out read (t.change k read) [] now
+    → (ms : List Turn) × IsRound ms × AreCalm ms × (now ≡ round_calls t k ms) × AreReadUnless (is_unread read) ms
+faltered_round t k read fault.NotOpened now r = read_round t k (is_unread read) now (unentered_gone t k (nothing_done t k) r)
+faltered_round t k read fault.NotRead now r =
+    read_round t k (is_unread read) now
+    (HasOut r.0, reach_as t k false (HasOut r.0) r.1 (one_other t k false (HasOut r.0) Fails (has_gone t k r.0) (λ d m. refl)))
+faltered_round t k read fault.Changed now r = changed_round t k read now r
+faltered_round t k read fault.NotEmptied now r = spilled_round t k r.0 read fault.NotEmptied now r.1
+faltered_round t k read (fault.NotWritten n) now r = spilled_round t k r.0 read (fault.NotWritten n) now r.1
+faltered_round t k read fault.NotSure now r = spilled_round t k r.0 read fault.NotSure now r.1
+
+pub written_round : (t : Task) (k i : ℕ) (read : Option (List ℕ)) (now : List Call) → now ≡ overwriting t.out i read (t.change k read) (entered t.out i [])
+    → (ms : List Turn) × IsRound ms × AreCalm ms × (now ≡ round_calls t k ms) × (last_phase ms ≡ HasPart read i (length (t.change k read)))
+    × AreReadUnless (is_unread read) ms
+written_round t k i read now e =
+    let g = filled_gone t k i (is_unread read) read (compared t.out read (entered t.out i [])) (may read) (checked_gone t k i read (has_gone t k i)) in
+    (g.turns, g.round, g.calm, e ∙ g.calls, g.ends, g.seen)

@@ -3,4 +3,5 @@ pub mod InPlace
 pub mod Overwriting
 pub mod Protocol
 pub mod Replacing
+pub mod Together
 pub mod Unread

@@ -1,6 +1,6 @@
 -- The calls of one process that replaces OUT by its new file.
 use Rattle.std.specs.Prelude.{◌≡◌, ◌⊎◌, ℕ, Bool, true, false, List, ◌∷◌, Option, Some, None, take}
-use Rattle.byte_system.specs.Disk.{Call, Makes, Opens, Locks, Looks, Writes, Syncs, Compares, Renames, Unlinks, SyncsFolder, Fails}
+use Rattle.byte_system.specs.Disk.{Call, Makes, Opens, Locks, Looks, Finds, Writes, Syncs, Compares, Renames, Unlinks, SyncsFolder, Fails}
 use Rattle.byte_system.specs.System.{SystemState, calls, GoesOn}
 use Rattle.byte_protocol.specs.declared.replacing.Fault.{Fault}
 use Rattle.byte_protocol.specs.declared.replacing.Fault.TheVariants as fault
@@ -14,7 +14,7 @@ entered path i before = Looks path i true ∷ Locks i true ∷ Opens path (Some 
 -- the calls before the new file is made: none, or those that remove one which a stopped process left
 abbrev pub begun : List ℕ → Option ℕ → List Call → List Call
 begun new None before = before
-begun new (Some n) before = Unlinks new ∷ entered new n (Makes new None ∷ before)
+begun new (Some n) before = Unlinks new ∷ entered new n (Finds new true ∷ Makes new None ∷ before)
 
 -- the new file was made, locked, and found under its name: from now on the name is the process's own
 abbrev pub owned : List ℕ → ℕ → List Call → List Call
@@ -36,12 +36,19 @@ Disowns path i before now = Denies (Locks i) before now ⊎ Denies (Looks path i
 abbrev pub Unentered : List ℕ → List Call → List Call → Type 0
 Unentered path before now = (now ≡ Fails ∷ before) ⊎ ((i : ℕ) × Disowns path i (Opens path (Some i) ∷ before) now)
 
--- nor was one removed that a stopped process left
+-- the name was asked what has it, or that failed
+abbrev pub Asks : List ℕ → List Call → List Call → Type 0
+Asks path before now = (now ≡ Finds path true ∷ before) ⊎ Denies (Finds path) before now
+
+-- there is no file that a stopped process left, or it was not removed
 abbrev pub Unswept : List ℕ → List Call → List Call → Type 0
-Unswept new before now = Unentered new before now ⊎ ((n : ℕ) × (now ≡ Fails ∷ entered new n before))
+Unswept new before now =
+    Asks new before now ⊎ (Unentered new (Finds new true ∷ before) now ⊎ ((n : ℕ) × (now ≡ Fails ∷ entered new n (Finds new true ∷ before))))
 
 -- all calls of one that did not get the new file
 abbrev pub Refuses : Fault → List ℕ → List Call → List Call → Type 0
+-- its folder forbids the file, and nothing was made
+Refuses fault.Forbidden new before now = now ≡ Fails ∷ before
 -- no file could be made
 Refuses fault.NotMade new before now = (left : Option ℕ) × (now ≡ Fails ∷ begun new left before)
 -- there is one that stays; there was another one once that was removed; or the one that was made is not the process's own
@@ -75,6 +82,7 @@ changed out (Some read) before = Compares out read false ∷ before
 -- all calls of one that has the new file and stopped with a fault
 abbrev pub Stops : Fault → List ℕ → List ℕ → ℕ → Option (List ℕ) → List ℕ → List Call → List Call → Type 0
 Stops fault.NotMade out new i read bytes before now = ⊥
+Stops fault.Forbidden out new i read bytes before now = ⊥
 Stops fault.NewExists out new i read bytes before now = ⊥
 Stops (fault.NotWritten n) out new i read bytes before now = Removes new (Writes i (take n bytes) ∷ before) now
 Stops fault.NotSure out new i read bytes before now = Removes new (Fails ∷ Writes i bytes ∷ before) now

@@ -1,17 +1,19 @@
 //! Replacing a file as a whole, while other processes use it.
 
 ghost use Rattle.std.specs.Prelude.{◌≡◌, ◌∷◌, ℕ, true, Option, Some, OnErr, OnOk, IfErr, IfOk, option_map};
-ghost use Rattle.byte_system.specs.Disk.{Locks, Looks, Makes, Unlinks};
+ghost use Rattle.byte_system.specs.Disk.{Finds, Locks, Looks, Makes, Unlinks};
 ghost use Rattle.byte_system.specs.System.{GoesOn, calls};
-ghost use Rattle.byte_protocol.specs.Replacing.{Abandons, Disowns, Refuses, Replaces, Stops, Unentered, Unswept, begun, entered, replacing, reserved};
+ghost use Rattle.byte_protocol.specs.Replacing.{Abandons, Asks, Disowns, Refuses, Replaces, Stops, Unentered, Unswept, begun, entered, replacing, reserved};
 
-use byte_system::{Failed, MakeFault, System};
+use byte_system::{Failed, MakeFault, Mode, System, There};
 
 /// Why a file was not replaced.
 #[derive(Clone, Copy, Debug, PartialEq, Eq)]
 pub enum Fault {
     /// The new file could not be made.
     NotMade,
+    /// No file with its name can be made in its folder.
+    Forbidden,
     /// Another process has the new file.
     NewExists,
     /// This many bytes were written, not all.
@@ -42,6 +44,7 @@ pub fn replace<S: System>(
     system: &mut S,
     out: &[u8],
     new: &[u8],
+    mode: Mode,
     read: Option<&[u8]>,
     bytes: &[u8],
 ) -> Result<(), Fault>
@@ -50,7 +53,7 @@ pub fn replace<S: System>(
     ensures fault { IfErr result (λ e. Abandons e out.now new.now (option_map (λ s. s.now) read.entry) bytes.now
         (calls (S.state system.old)) (calls (S.state system.new))) }
 {
-    let made = match reserve(system, new) {
+    let made = match reserve(system, new, mode) {
         Ok(made) => made,
         Err(fault) => return Err(fault),
     };
@@ -62,12 +65,12 @@ pub fn replace<S: System>(
 
 /// Makes the new file, so that its name is this process's own. One that a stopped process left is removed, and nothing is written
 /// to it. Whoever has the new file reads the old one only now.
-pub fn reserve<S: System>(system: &mut S, new: &[u8]) -> Result<Made, Fault>
+pub fn reserve<S: System>(system: &mut S, new: &[u8], mode: Mode) -> Result<Made, Fault>
     ensures goes { GoesOn (S.state system.old) (S.state system.new) }
     ensures ok { IfOk result (λ m. calls (S.state system.new) ≡ reserved new.now m.left m.file (calls (S.state system.old))) }
     ensures fault { IfErr result (λ e. Refuses e new.now (calls (S.state system.old)) (calls (S.state system.new))) }
 {
-    let made = match make_new(system, new) {
+    let made = match make_new(system, new, mode) {
         Ok(made) => made,
         Err(fault) => return Err(fault),
     };
@@ -78,26 +81,28 @@ pub fn reserve<S: System>(system: &mut S, new: &[u8]) -> Result<Made, Fault>
 }
 
 // Makes the new file. One that a stopped process left is removed first.
-fn make_new<S: System>(system: &mut S, new: &[u8]) -> Result<Made, Fault>
+fn make_new<S: System>(system: &mut S, new: &[u8], mode: Mode) -> Result<Made, Fault>
     ensures goes { GoesOn (S.state system.old) (S.state system.new) }
     ensures ok { IfOk result (λ m. calls (S.state system.new) ≡ Makes new.now (Some m.file) ∷ begun new.now m.left (calls (S.state system.old))) }
     ensures fault { IfErr result (λ e. Refuses e new.now (calls (S.state system.old)) (calls (S.state system.new))) }
 {
-    match system.make(new) {
+    match system.make(new, mode) {
         Ok(file) => return Ok(Made { file, left: None }),
         Err(MakeFault::NotMade) => return Err(Fault::NotMade),
+        Err(MakeFault::Forbidden) => return Err(Fault::Forbidden),
         Err(MakeFault::Exists) => {}
     }
     let left = match sweep(system, new) {
         Ok(left) => left,
         Err(_) => return Err(Fault::NewExists),
     };
-    match system.make(new) {
+    match system.make(new, mode) {
         Ok(file) => Ok(Made {
             file,
             left: Some(left),
         }),
         Err(MakeFault::NotMade) => Err(Fault::NotMade),
+        Err(MakeFault::Forbidden) => Err(Fault::NotMade),
         Err(MakeFault::Exists) => Err(Fault::NewExists),
     }
 }
@@ -121,7 +126,7 @@ fn own<S: System>(system: &mut S, new: &[u8], file: usize) -> Result<(), Failed>
 }
 
 /// Opens the file with the name and locks it, and then looks whether the name leads to it.
-pub(crate) fn enter<S: System>(system: &mut S, path: &[u8]) -> Result<usize, Failed>
+pub fn enter<S: System>(system: &mut S, path: &[u8]) -> Result<usize, Failed>
     ensures goes { GoesOn (S.state system.old) (S.state system.new) }
     ensures ok { IfOk result (λ i. calls (S.state system.new) ≡ entered path.now i (calls (S.state system.old))) }
     ensures err { OnErr result (Unentered path.now (calls (S.state system.old)) (calls (S.state system.new))) }
@@ -139,15 +144,33 @@ pub(crate) fn enter<S: System>(system: &mut S, path: &[u8]) -> Result<usize, Fai
 // Removes the file that a stopped process left.
 fn sweep<S: System>(system: &mut S, new: &[u8]) -> Result<usize, Failed>
     ensures goes { GoesOn (S.state system.old) (S.state system.new) }
-    ensures swept { IfOk result (λ n. calls (S.state system.new) ≡ Unlinks new.now ∷ entered new.now n (calls (S.state system.old))) }
+    ensures swept { IfOk result (λ n. calls (S.state system.new) ≡ Unlinks new.now ∷ entered new.now n (Finds new.now true ∷ calls (S.state system.old))) }
     ensures err { OnErr result (Unswept new.now (calls (S.state system.old)) (calls (S.state system.new))) }
 {
+    if let Err(_) = find_left(system, new) {
+        return Err(Failed);
+    }
     let file = match enter(system, new) {
         Ok(file) => file,
         Err(_) => return Err(Failed),
     };
     match system.unlink(new) {
         Ok(()) => Ok(file),
+        Err(_) => Err(Failed),
+    }
+}
+
+// Finds a file that a stopped process may have left. A link, or a file with a second name, is another file.
+fn find_left<S: System>(system: &mut S, new: &[u8]) -> Result<(), Failed>
+    ensures goes { GoesOn (S.state system.old) (S.state system.new) }
+    ensures ok { OnOk result (calls (S.state system.new) ≡ Finds new.now true ∷ calls (S.state system.old)) }
+    ensures err { OnErr result (Asks new.now (calls (S.state system.old)) (calls (S.state system.new))) }
+{
+    match system.look(new) {
+        Ok(There::Sole) => Ok(()),
+        Ok(There::Shared) => Err(Failed),
+        Ok(There::Other) => Err(Failed),
+        Ok(There::Nothing) => Err(Failed),
         Err(_) => Err(Failed),
     }
 }

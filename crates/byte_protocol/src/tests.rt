@@ -2,7 +2,7 @@
 
 use crate::replacing::{Fault, replace};
 use crate::within::{WriteFault, write_within};
-use byte_system::{Act, Does, MemSystem};
+use byte_system::{Act, Does, MemSystem, Mode};
 use std::alloc::{AllocError, Global};
 use std::test::Fail;
 
@@ -68,7 +68,14 @@ fn ends(
     acts_of(alloc, &mut acts, second)?;
     let fails = fails.to_vec(alloc)?;
     let mut system = MemSystem::new(alloc, 1, acts, fails);
-    let result = replace(&mut system, b"out", b"new", Some(b"old"), b"mine");
+    let result = replace(
+        &mut system,
+        b"out",
+        b"new",
+        Mode::Usual,
+        Some(b"old"),
+        b"mine",
+    );
     Ok(result == want && system.read(b"out") == Some(left))
 }
 
@@ -77,7 +84,7 @@ fn replaces_unread(alloc: Global) -> Result<bool, AllocError> {
     let mut acts = Vec::new(alloc);
     acts_of(alloc, &mut acts, Second::WritesToOut(5))?;
     let mut system = MemSystem::new(alloc, 1, acts, Vec::new(alloc));
-    let result = replace(&mut system, b"out", b"new", None, b"mine");
+    let result = replace(&mut system, b"out", b"new", Mode::Usual, None, b"mine");
     Ok(result == Ok(()) && system.read(b"out") == Some(b"mine"))
 }
 
@@ -93,7 +100,7 @@ fn overwrites(
     acts_of(alloc, &mut acts, second)?;
     let fails = fails.to_vec(alloc)?;
     let mut system = MemSystem::new(alloc, 1, acts, fails);
-    let result = write_within(&mut system, b"out", b"old", b"mine");
+    let result = write_within(&mut system, b"out", Some(b"old"), b"mine");
     Ok(result == want && system.read(b"out") == Some(left))
 }
 
@@ -191,7 +198,7 @@ fn fails_while_it_sweeps(rt: HostRuntime) -> Result<(), Fail> {
         ends(
             rt.alloc(),
             Second::LeavesNew,
-            &[4],
+            &[1],
             Err(Fault::NewExists),
             b"old"
         )?
@@ -201,6 +208,15 @@ fn fails_while_it_sweeps(rt: HostRuntime) -> Result<(), Fail> {
             rt.alloc(),
             Second::LeavesNew,
             &[5],
+            Err(Fault::NewExists),
+            b"old"
+        )?
+    );
+    assert!(rt;
+        ends(
+            rt.alloc(),
+            Second::LeavesNew,
+            &[6],
             Err(Fault::NotMade),
             b"old"
         )?

@@ -1,9 +1,9 @@
 //! Writing a file in place, under its own lock. A stop in the middle leaves a part of the bytes.
 
-ghost use Rattle.std.specs.Prelude.{◌≡◌, ℕ, OnOk, IfErr};
+ghost use Rattle.std.specs.Prelude.{◌≡◌, ℕ, OnOk, IfErr, option_map};
 ghost use Rattle.byte_system.specs.System.{GoesOn, calls};
 ghost use Rattle.byte_protocol.specs.Replacing.{entered};
-ghost use Rattle.byte_protocol.specs.Overwriting.{Breaks, Falters, overwriting};
+ghost use Rattle.byte_protocol.specs.Overwriting.{Breaks, Falters, Spills, filling, overwriting};
 
 use crate::replacing::enter;
 use byte_system::System;
@@ -25,16 +25,17 @@ pub enum WriteFault {
     NotSure,
 }
 
-/// Writes the bytes into the file with the name, if it has the bytes that were read. It is locked from before it is compared.
+/// Writes the bytes into the file with the name, if it has the bytes that were read, or if it was not read. It is locked from before it
+/// is compared.
 pub fn write_within<S: System>(
     system: &mut S,
     out: &[u8],
-    read: &[u8],
+    read: Option<&[u8]>,
     bytes: &[u8],
 ) -> Result<(), WriteFault>
     ensures goes { GoesOn (S.state system.old) (S.state system.new) }
-    ensures ok { OnOk result ((i : ℕ) × (calls (S.state system.new) ≡ overwriting out.now i read.now bytes.now (entered out.now i (calls (S.state system.old))))) }
-    ensures fault { IfErr result (λ e. Falters e out.now read.now bytes.now (calls (S.state system.old)) (calls (S.state system.new))) }
+    ensures ok { OnOk result ((i : ℕ) × (calls (S.state system.new) ≡ overwriting out.now i (option_map (λ s. s.now) read.entry) bytes.now (entered out.now i (calls (S.state system.old))))) }
+    ensures fault { IfErr result (λ e. Falters e out.now (option_map (λ s. s.now) read.entry) bytes.now (calls (S.state system.old)) (calls (S.state system.new))) }
 {
     let file = match enter(system, out) {
         Ok(file) => file,
@@ -51,18 +52,29 @@ fn overwrite<S: System>(
     system: &mut S,
     file: usize,
     out: &[u8],
-    read: &[u8],
+    read: Option<&[u8]>,
     bytes: &[u8],
 ) -> Result<(), WriteFault>
     ensures goes { GoesOn (S.state system.old) (S.state system.new) }
-    ensures ok { OnOk result (calls (S.state system.new) ≡ overwriting out.now file read.now bytes.now (calls (S.state system.old))) }
-    ensures fault { IfErr result (λ e. Breaks e out.now file read.now bytes.now (calls (S.state system.old)) (calls (S.state system.new))) }
+    ensures ok { OnOk result (calls (S.state system.new) ≡ overwriting out.now file (option_map (λ s. s.now) read.entry) bytes.now (calls (S.state system.old))) }
+    ensures fault { IfErr result (λ e. Breaks e out.now file (option_map (λ s. s.now) read.entry) bytes.now (calls (S.state system.old)) (calls (S.state system.new))) }
 {
-    match system.has(out, read) {
-        Ok(true) => {}
-        Ok(false) => return Err(WriteFault::Changed),
-        Err(_) => return Err(WriteFault::NotRead),
+    if let Some(read) = read {
+        match system.has(out, read) {
+            Ok(true) => {}
+            Ok(false) => return Err(WriteFault::Changed),
+            Err(_) => return Err(WriteFault::NotRead),
+        }
     }
+    fill(system, file, bytes)
+}
+
+/// Writes the bytes in the place of those of the file, which this process has locked.
+pub fn fill<S: System>(system: &mut S, file: usize, bytes: &[u8]) -> Result<(), WriteFault>
+    ensures goes { GoesOn (S.state system.old) (S.state system.new) }
+    ensures ok { OnOk result (calls (S.state system.new) ≡ filling file bytes.now (calls (S.state system.old))) }
+    ensures fault { IfErr result (λ e. Spills e file bytes.now (calls (S.state system.old)) (calls (S.state system.new))) }
+{
     if system.truncate(file).is_err() {
         return Err(WriteFault::NotEmptied);
     }

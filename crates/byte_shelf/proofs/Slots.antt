@@ -1,12 +1,12 @@
 -- The bytes that are read from a slot, and new shelves.
-use Rattle.std.proofs.Common.{◌≡◌, inl, inr, ℕ, ◌+◌, ◌-◌, ◌%◌, ◌≤◌, ◌<◌, ◌^◌, ◌++◌, List, length, take, drop, refl, sym, ap, subst, ◌∙◌, arith, take-add, take-take}
+use Rattle.std.proofs.Common.{◌≡◌, ℕ, ◌+◌, ◌-◌, ◌%◌, ◌≤◌, ◌<◌, ◌^◌, ◌++◌, List, length, take, drop, refl, sym, ap, subst, ◌∙◌, arith, take-add, take-take}
 use Rattle.std.specs.Int.{w32, to_be_bytes, from_be_bytes}
 use Rattle.std.proofs.lemmas.Nat.{from_be_bytes-to_be_bytes_4}
 use Rattle.std.proofs.lemmas.List.{take_at, take-append-drop, drop-drop}
 use Rattle.byte_disk.specs.Disk.{ReadsAt, IsWritten}
-use Rattle.byte_shelf.specs.Shelf.{StandAt, place, framed, fresh, HasHead, HasNoHead, IsSize, IsShelf, IsShelfOf, IsNoShelf}
+use Rattle.byte_shelf.specs.Shelf.{StandAt, place, framed, fresh, HasHead, IsSize, IsShelf, IsShelfOf, IsNoShelf}
 use Rattle.byte_shelf.proofs.Windows.{within_length}
-use Rattle.byte_shelf.proofs.Steps.{long_frame, range_of, slot_of}
+use Rattle.byte_shelf.proofs.Steps.{long_frame, slot_of}
 
 -- the bytes of a new shelf, with any bytes after them, are a shelf
 pub at_front : (size : ℕ) (bytes rest : List ℕ) → size < 2 ^ 32 → IsSize size → length bytes ≤ size → IsShelfOf (fresh size bytes ++ rest) size bytes
@@ -50,10 +50,6 @@ no_room s bytes at short stands = omega (arith, short, slot_long s bytes at stan
 
 pub no_rest : (s bytes : List ℕ) (at len : ℕ) → len < 2 ^ 32 → length bytes < 2 ^ 32 → StandAt s at (to_be_bytes w32 len) → length s - (at + 4) < len → StandAt s at (framed bytes) → ⊥
 no_rest s bytes at len p q stands short slot = omega (arith, short, slot_long s bytes at slot, same_length s bytes at len p q stands slot)
-
-pub no_head : (s : List ℕ) → HasNoHead s → IsNoShelf s
-no_head s (inl short) bytes shelf = omega (arith, short, within_length s (to_be_bytes w32 shelf.size) 1 (omega arith) shelf.head.size_stands)
-no_head s (inr (gate, size, head, bad)) bytes shelf = bad (range_of s bytes gate size head shelf)
 
 pub shelf_of : (s v : List ℕ) (gate size : ℕ) → HasHead s gate size → IsSize size → length v ≤ size → StandAt s (place size (gate % 2)) (framed v) → IsShelf s v
 shelf_of s v gate size head range within slot = record { gate = gate; size = size; in_range = range; head = head; within = within; slot = slot }

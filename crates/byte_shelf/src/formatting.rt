@@ -1,6 +1,6 @@
 //! Makes a shelf.
 
-ghost use Rattle.std.specs.Prelude.{◌≡◌, ◌<◌, ◌≤◌, ◌^◌, IsTrue, OnOk, IfOk, IsErr, IsErrOf, length};
+ghost use Rattle.std.specs.Prelude.{◌≡◌, ◌<◌, ◌^◌, IsTrue, OnOk, IfOk, IsErr, IsErrOf, length};
 ghost use Rattle.byte_disk.specs.Disk.{Only};
 ghost use Rattle.byte_shelf.specs.Shelf.{IsSize, IsShelfOf, fresh};
 ghost use Rattle.byte_shelf.specs.Keep.{CountsFault};

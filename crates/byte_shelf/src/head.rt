@@ -1,6 +1,6 @@
 //! The head of a shelf: the gate, which selects the slot in use, and the size of a slot.
 
-ghost use Rattle.std.specs.Prelude.{◌≡◌, ◌⊎◌, ◌-◌, ◌%◌, false, List, ℕ, IsTrue, IfOk, IfErr, IsErrOf, OnOk, length};
+ghost use Rattle.std.specs.Prelude.{◌≡◌, ◌⊎◌, ◌-◌, ◌%◌, false, IsTrue, IfOk, IfErr, IsErrOf, OnOk, length};
 ghost use Rattle.byte_disk.specs.Disk.{Only};
 ghost use Rattle.byte_shelf.specs.Shelf.{HasHead, HasNoHead, IsSize, place};
 ghost use Rattle.byte_shelf.specs.Keep.{AddsNothing, CountsFault};

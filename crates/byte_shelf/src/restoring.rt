@@ -1,6 +1,6 @@
 //! Reads the slot in use.
 
-ghost use Rattle.std.specs.Prelude.{◌≡◌, ◌⊎◌, ◌<◌, ◌≤◌, ◌-◌, ◌^◌, List, ℕ, IsTrue, OnOk, IfOk, IfErr, IsErrOf, length, take, drop};
+ghost use Rattle.std.specs.Prelude.{◌≡◌, ◌⊎◌, ◌<◌, ◌≤◌, ◌-◌, ◌^◌, List, ℕ, IsTrue, OnOk, IfOk, IfErr, IsErrOf, length, take};
 ghost use Rattle.std.specs.Int.{w32, to_be_bytes};
 ghost use Rattle.byte_disk.specs.Disk.{Only};
 ghost use Rattle.byte_shelf.specs.Shelf.{IsShelf, IsNoShelf, StandAt, framed};

@@ -2,7 +2,7 @@
 use Rattle.std.proofs.Common.{◌≡◌, ◌≢◌, ◌⊎◌, inl, inr, ℕ, ◌+◌, ◌<◌, ◌≤◌, Bool, true, false, List, [], ◌∷◌, ◌++◌, Option, Some, None, IsSome, take, bytes_eq, eqb, refl, sym, ◌∙◌, ap, subst, cond, arith}
 use Rattle.std.proofs.lemmas.Bool.Decides.{eqb_tells}
 use lib.Pointwise.{bytes_decides}
-use Rattle.byte_system.specs.Disk.{content, content_of, Disk, Event, Call, Makes, Opens, Locks, Compares, Looks, Writes, Truncates, Renames, Unlinks, Ends, Gives, Honest, IsNew, after, step, named, numbered, released, no_files}
+use Rattle.byte_system.specs.Disk.{content, content_of, Disk, Event, Call, Makes, Opens, Locks, Compares, Looks, Writes, Truncates, Renames, Unlinks, Finds, Likens, Ends, Gives, Honest, IsNew, after, step, named, numbered, released, no_files}
 use Rattle.byte_system.specs.Entries.{name_from, bytes_from, holder_from, may_lock, is_file}
 use Rattle.byte_system.specs.Files.{IsUnused, Shows}
 use Rattle.byte_system.specs.declared.entries.Name.{Name}
@@ -197,6 +197,15 @@ module _ (ns : List Name) (hs : List Held) (ls : List Lock) (c : ℕ) (es : List
 
   pub opened : (p : List ℕ) (f : ℕ) → name_from None ns p ≡ Some f → Shows ns hs ls c (record { by = k; call = Opens p (Some f) } ∷ es)
   opened p f there = idle (Opens p (Some f)) refl (s.names_are p ∙ there)
+
+  pub found : (p : List ℕ) (f : ℕ) → name_from None ns p ≡ Some f → Shows ns hs ls c (record { by = k; call = Finds p true } ∷ es)
+  found p f there = idle (Finds p true) refl (some_there (d.names p) (name_from None ns p) f (s.names_are p) there)
+
+  pub found_none : (p : List ℕ) → name_from None ns p ≡ None → Shows ns hs ls c (record { by = k; call = Finds p false } ∷ es)
+  found_none p none = idle (Finds p false) refl (s.names_are p ∙ none)
+
+  pub likened : (i : ℕ) (p : List ℕ) (f : ℕ) → name_from None ns p ≡ Some f → Shows ns hs ls c (record { by = k; call = Likens i p } ∷ es)
+  likened i p f there = idle (Likens i p) refl (some_there (d.names p) (name_from None ns p) f (s.names_are p) there)
 
   may_lock_false : (x : Option ℕ) → may_lock x k ≡ false → IsSome x
   may_lock_false None e = cc

@@ -1,9 +1,11 @@
 -- The effect of a call on a system, while other processes make calls.
-use Rattle.std.specs.Prelude.{◌≡◌, ◌==◌, ℕ, Bool, List, [], ◌∷◌, ◌++◌, Option, Some, None, Ok, Err, take, if◌then◌else◌}
+use Rattle.std.specs.Prelude.{◌≡◌, ◌==◌, ℕ, Bool, true, false, List, [], ◌∷◌, ◌++◌, Option, Some, None, Ok, Err, take, if◌then◌else◌}
 use Rattle.std.specs.declared.result.Result.{Result}
-use Rattle.byte_system.specs.Disk.{Disk, Event, Call, Makes, Opens, Writes, Fails, Honest}
+use Rattle.byte_system.specs.Disk.{Disk, Event, Call, Makes, Opens, Finds, Writes, Likens, Fails, Honest}
 use Rattle.byte_system.specs.declared.system.MakeFault.{MakeFault}
 use Rattle.byte_system.specs.declared.system.MakeFault.TheVariants as make
+use Rattle.byte_system.specs.declared.system.There.{There}
+use Rattle.byte_system.specs.declared.system.There.TheVariants as there
 
 -- this process, all events so far, of all processes, and the files before them, if the system reports them
 pub record SystemState : Type 0 where
@@ -41,6 +43,7 @@ pub record GoesOn (old last : SystemState) : Type 0 where
 abbrev pub make_call : List ℕ → Result ℕ MakeFault → Call
 make_call p (Ok i) = Makes p (Some i)
 make_call p (Err make.Exists) = Makes p None
+make_call p (Err make.Forbidden) = Fails
 make_call p (Err make.NotMade) = Fails
 
 abbrev pub open_call : {E : Type 0} → List ℕ → Result ℕ E → Call
@@ -56,6 +59,19 @@ done_or_failed c (Err e) = Fails
 abbrev pub told_or_failed : {E : Type 0} → (Bool → Call) → Result Bool E → Call
 told_or_failed c (Ok b) = c b
 told_or_failed c (Err e) = Fails
+
+-- whatever has the name is there
+abbrev pub look_call : {E : Type 0} → List ℕ → Result There E → Call
+look_call p (Ok there.Nothing) = Finds p false
+look_call p (Ok there.Sole) = Finds p true
+look_call p (Ok there.Shared) = Finds p true
+look_call p (Ok there.Other) = Finds p true
+look_call p (Err e) = Fails
+
+-- no file here says who may open it, so any answer is honest
+abbrev pub alike_call : {E : Type 0} → ℕ → List ℕ → Result Bool E → Call
+alike_call i p (Ok b) = Likens i p
+alike_call i p (Err e) = Fails
 
 -- the first n bytes were written
 abbrev pub write_call : ℕ → List ℕ → ℕ → Call

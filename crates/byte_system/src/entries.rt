@@ -2,7 +2,7 @@
 
 ghost use Rattle.std.specs.Prelude.{◌≡◌, ◌++◌, None, [], ℕ, List, OnOk, OnErr, ◌==◌, bytes_eq, if◌then◌else◌};
 ghost use Rattle.byte_system.specs.Disk.{named, numbered, released};
-ghost use Rattle.byte_system.specs.Entries.{name_step, name_from, bytes_from, lock_step, holder_from};
+ghost use Rattle.byte_system.specs.Entries.{name_step, name_from, bytes_from, lock_step, holder_from, may_lock, is_file};
 
 use std::alloc::{AllocError, Global};
 
@@ -110,6 +110,26 @@ pub(crate) fn holder_of(locks: &[Lock], file: usize) -> Option<usize>
         rest = others;
     }
     found
+}
+
+/// Whether a process may lock a file with this holder.
+pub(crate) fn may_lock(holder: Option<usize>, by: usize) -> bool
+    ensures { result ≡ may_lock holder by }
+{
+    match holder {
+        None => true,
+        Some(holder) => holder == by,
+    }
+}
+
+/// Whether the file that a name has is this one.
+pub(crate) fn is_file(found: Option<usize>, file: usize) -> bool
+    ensures { result ≡ is_file found file }
+{
+    match found {
+        None => false,
+        Some(found) => found == file,
+    }
 }
 
 /// Gives a name a file, or takes it away.

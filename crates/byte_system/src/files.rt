@@ -2,13 +2,12 @@
 
 ghost use Rattle.std.specs.Prelude.{◌≡◌, ◌≤◌, ◌∷◌, []};
 ghost use Rattle.byte_system.specs.Files.{Shows};
-ghost use Rattle.byte_system.specs.Entries.{may_lock, is_file};
 
 use crate::entries::{
-    Held, Lock, Name, append, bytes_of, file_named, holder_of, move_name, set_empty, set_lock,
-    set_name,
+    Held, Lock, Name, append, bytes_of, file_named, holder_of, is_file, may_lock, move_name,
+    set_empty, set_lock, set_name,
 };
-use crate::system::{Failed, FolderFault, MakeFault};
+use crate::system::{Failed, FolderFault, MakeFault, ReadFault, RenameFault, There};
 use crate::trail::{Note, Said, Trail};
 use std::alloc::Global;
 
@@ -26,7 +25,7 @@ pub(crate) struct Files {
 
 impl Files {
     ghost use Rattle.byte_system.specs.Disk.{Makes, Opens, Locks, Looks, Writes, Truncates, Syncs, Compares, Renames, Unlinks, SyncsFolder, Fails, Ends};
-    ghost use Rattle.byte_system.specs.System.{make_call, open_call, done_or_failed, told_or_failed, write_call};
+    ghost use Rattle.byte_system.specs.System.{make_call, open_call, look_call, alike_call, done_or_failed, told_or_failed, write_call};
 
     /// No files.
     pub(crate) fn new(alloc: Global) -> Files
@@ -59,9 +58,66 @@ impl Files {
         });
     }
 
-    pub(crate) fn make(&mut self, by: usize, path: &[u8], works: bool) -> Result<usize, MakeFault>
+    /// Each file has one name.
+    pub(crate) fn look(&mut self, by: usize, path: &[u8], works: bool) -> Result<There, Failed>
+        ensures { self.new.trail.events ≡ record { by = by; call = look_call path.now result } ∷ self.old.trail.events }
+    {
+        if !works {
+            self.fail(by);
+            return Err(Failed);
+        }
+        let Some(_) = file_named(&self.names, path) else {
+            self.trail = self.trail.then(&Note {
+                by,
+                call: Said::Finds(path, false),
+            });
+            return Ok(There::Nothing);
+        };
+        self.trail = self.trail.then(&Note {
+            by,
+            call: Said::Finds(path, true),
+        });
+        Ok(There::Sole)
+    }
+
+    /// Files in memory are open to all.
+    pub(crate) fn make_alike(
+        &mut self,
+        by: usize,
+        file: usize,
+        path: &[u8],
+        works: bool,
+    ) -> Result<bool, Failed>
+        ensures { self.new.trail.events ≡ record { by = by; call = alike_call file path.now result } ∷ self.old.trail.events }
+    {
+        if !works {
+            self.fail(by);
+            return Err(Failed);
+        }
+        let Some(_) = file_named(&self.names, path) else {
+            self.fail(by);
+            return Err(Failed);
+        };
+        self.trail = self.trail.then(&Note {
+            by,
+            call: Said::Likens(file, path),
+        });
+        Ok(true)
+    }
+
+    pub(crate) fn make(
+        &mut self,
+        by: usize,
+        path: &[u8],
+        works: bool,
+        is_forbidden: bool,
+    ) -> Result<usize, MakeFault>
         ensures { self.new.trail.events ≡ record { by = by; call = make_call path.now result } ∷ self.old.trail.events }
     {
+        if is_forbidden {
+            self.fail(by);
+            return Err(MakeFault::Forbidden);
+        }
         if !works {
             self.fail(by);
             return Err(MakeFault::NotMade);
@@ -241,12 +297,12 @@ impl Files {
         path: &[u8],
         bytes: &[u8],
         works: bool,
-    ) -> Result<bool, Failed>
+    ) -> Result<bool, ReadFault>
         ensures { self.new.trail.events ≡ record { by = by; call = told_or_failed (Compares path.now bytes.now) result } ∷ self.old.trail.events }
     {
         if !works {
             self.fail(by);
-            return Err(Failed);
+            return Err(ReadFault::NotOpened);
         }
         let Some(file) = file_named(&self.names, path) else {
             self.trail = self.trail.then(&Note {
@@ -275,23 +331,23 @@ impl Files {
         from: &[u8],
         to: &[u8],
         works: bool,
-    ) -> Result<(), Failed>
+    ) -> Result<(), RenameFault>
         ensures { self.new.trail.events ≡ record { by = by; call = done_or_failed (Renames from.now to.now) result } ∷ self.old.trail.events }
     {
         if !works {
             self.fail(by);
-            return Err(Failed);
+            return Err(RenameFault::NotRenamed);
         }
         let Some(file) = file_named(&self.names, from) else {
             self.fail(by);
-            return Err(Failed);
+            return Err(RenameFault::NotRenamed);
         };
         if let Err(_) = move_name(self.alloc, &mut self.names, from, to, Some(file)) {
             self.trail = self.trail.then(&Note {
                 by,
                 call: Said::Fails,
             });
-            return Err(Failed);
+            return Err(RenameFault::NotRenamed);
         }
         self.trail = self.trail.then(&Note {
             by,
@@ -360,25 +416,6 @@ impl Files {
             call: Said::Ends,
         });
         Ok(())
-    }
-}
-
-/// Whether a process may lock a file with this holder.
-fn may_lock(holder: Option<usize>, by: usize) -> bool
-    ensures { result ≡ may_lock holder by }
-{
-    match holder {
-        None => true,
-        Some(holder) => holder == by,
-    }
-}
-
-fn is_file(found: Option<usize>, file: usize) -> bool
-    ensures { result ≡ is_file found file }
-{
-    match found {
-        None => false,
-        Some(found) => found == file,
     }
 }
 

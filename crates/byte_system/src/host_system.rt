@@ -4,12 +4,14 @@ ghost use Rattle.std.specs.Prelude.{◌≡◌, ◌≤◌, [], None, length};
 ghost use Rattle.byte_system.specs.System.{Took};
 ghost use Rattle.byte_system.specs.Noted.{call_said};
 
-use crate::system::{Failed, FolderFault, MakeFault, System};
+use crate::host_answers::{make_fault, permissions, rename_fault, there_is};
+use crate::system::{Failed, FolderFault, MakeFault, Mode, ReadFault, RenameFault, System, There};
 use crate::trail::{Note, Said, Trail};
+use byte_out::make_alike;
 use std::alloc::Global;
 use std::fs::{self, File, Metadata, OpenFile, OpenOptions, TryLockError};
 use std::io::{ErrorKind, Read, Write};
-use std::os::unix::fs::MetadataExt;
+use std::os::unix::fs::{MetadataExt, OpenOptionsExt};
 use std::rt::Files;
 use std::str;
 
@@ -83,12 +85,14 @@ fn write_to(file: &mut File, bytes: &[u8]) -> usize
 }
 
 // Whether the file gives exactly these bytes.
-fn gives(file: &mut File, bytes: &[u8]) -> Result<bool, Failed> {
+fn gives(file: &mut File, bytes: &[u8]) -> Result<bool, ReadFault> {
     let mut rest = bytes;
     let mut chunk = [0; 4_096];
     for _ in 0..u64::MAX {
-        let Ok(n) = file.read(&mut chunk) else {
-            return Err(Failed);
+        let n = match file.read(&mut chunk) {
+            Ok(n) => n,
+            Err(error) if error.kind() == ErrorKind::Interrupted => continue,
+            Err(_) => return Err(ReadFault::Cut(bytes.len().saturating_sub(rest.len()))),
         };
         if n == 0 {
             return Ok(rest.is_empty());
@@ -98,7 +102,7 @@ fn gives(file: &mut File, bytes: &[u8]) -> Result<bool, Failed> {
         }
         rest = &rest[n..];
     }
-    Err(Failed)
+    Ok(false)
 }
 
 // The folder of the file at a path.
@@ -112,7 +116,20 @@ fn folder(path: &str) -> &str {
 
 // The calls themselves, for names that are text.
 impl<'a, R: Files<File = File>> HostSystem<'a, R> {
-    fn make_at(&mut self, path: &[u8]) -> Result<usize, MakeFault>
+    fn found_at(&self, path: &[u8]) -> Option<There> {
+        match fs::symlink_metadata(self.rt, str::from_utf8(path).ok()?) {
+            Ok(there) => there_is(&there),
+            Err(error) if error.kind() == ErrorKind::NotFound => Some(There::Nothing),
+            Err(_) => None,
+        }
+    }
+
+    fn likens(&self, file: usize, path: &[u8]) -> Option<bool> {
+        let old = fs::symlink_metadata(self.rt, str::from_utf8(path).ok()?).ok()?;
+        make_alike(self.open.get(file)?, &old).ok()
+    }
+
+    fn make_at(&mut self, path: &[u8], mode: Mode) -> Result<usize, MakeFault>
         ensures { self.new.trail ≡ self.old.trail }
     {
         let Ok(path) = str::from_utf8(path) else {
@@ -125,11 +142,11 @@ impl<'a, R: Files<File = File>> HostSystem<'a, R> {
         match OpenOptions::new()
             .append(true)
             .create_new(true)
+            .mode(permissions(mode))
             .open(self.rt, path)
         {
             Ok(file) => self.number_made(file, path),
-            Err(error) if error.kind() == ErrorKind::AlreadyExists => Err(MakeFault::Exists),
-            Err(_) => Err(MakeFault::NotMade),
+            Err(error) => Err(make_fault(error.kind())),
         }
     }
 
@@ -169,21 +186,24 @@ impl<'a, R: Files<File = File>> HostSystem<'a, R> {
         }
     }
 
-    fn has_at(&self, path: &[u8], bytes: &[u8]) -> Result<bool, Failed> {
+    fn has_at(&self, path: &[u8], bytes: &[u8]) -> Result<bool, ReadFault> {
         let Ok(path) = str::from_utf8(path) else {
-            return Err(Failed);
+            return Err(ReadFault::NotOpened);
         };
         match fs::open(self.rt, path) {
             Ok(mut file) => gives(&mut file, bytes),
             Err(error) if error.kind() == ErrorKind::NotFound => Ok(false),
-            Err(_) => Err(Failed),
+            Err(_) => Err(ReadFault::NotOpened),
         }
     }
 
-    fn renames(&self, from: &[u8], to: &[u8]) -> bool {
+    fn renames(&self, from: &[u8], to: &[u8]) -> Result<(), RenameFault> {
         match (str::from_utf8(from), str::from_utf8(to)) {
-            (Ok(from), Ok(to)) if from != to => fs::rename(self.rt, from, to).is_ok(),
-            _ => false,
+            (Ok(from), Ok(to)) if from != to => match fs::rename(self.rt, from, to) {
+                Ok(()) => Ok(()),
+                Err(error) => Err(rename_fault(error.kind())),
+            },
+            _ => Err(RenameFault::NotRenamed),
         }
     }
 
@@ -214,8 +234,33 @@ impl<'a, R: Files<File = File>> HostSystem<'a, R> {
 impl<R: Files<File = File>> System for HostSystem<'_, R> {
     ghost state = { λ s. record { me = 0; first = None; trace = s.trail.events } };
 
-    fn make(&mut self, path: &[u8]) -> Result<usize, MakeFault> {
-        match self.make_at(path) {
+    fn look(&mut self, path: &[u8]) -> Result<There, Failed> {
+        match self.found_at(path) {
+            Some(There::Nothing) => {
+                self.note(Said::Finds(path, false));
+                Ok(There::Nothing)
+            }
+            Some(There::Sole) => {
+                self.note(Said::Finds(path, true));
+                Ok(There::Sole)
+            }
+            Some(There::Shared) => {
+                self.note(Said::Finds(path, true));
+                Ok(There::Shared)
+            }
+            Some(There::Other) => {
+                self.note(Said::Finds(path, true));
+                Ok(There::Other)
+            }
+            None => {
+                self.note(Said::Fails);
+                Err(Failed)
+            }
+        }
+    }
+
+    fn make(&mut self, path: &[u8], mode: Mode) -> Result<usize, MakeFault> {
+        match self.make_at(path, mode) {
             Ok(file) => {
                 self.note(Said::Makes(path, Some(file)));
                 Ok(file)
@@ -224,11 +269,24 @@ impl<R: Files<File = File>> System for HostSystem<'_, R> {
                 self.note(Said::Makes(path, None));
                 Err(MakeFault::Exists)
             }
+            Err(MakeFault::Forbidden) => {
+                self.note(Said::Fails);
+                Err(MakeFault::Forbidden)
+            }
             Err(MakeFault::NotMade) => {
                 self.note(Said::Fails);
                 Err(MakeFault::NotMade)
             }
         }
+    }
+
+    fn make_alike(&mut self, file: usize, path: &[u8]) -> Result<bool, Failed> {
+        let Some(is_alike) = self.likens(file, path) else {
+            self.note(Said::Fails);
+            return Err(Failed);
+        };
+        self.note(Said::Likens(file, path));
+        Ok(is_alike)
     }
 
     fn open(&mut self, path: &[u8]) -> Result<usize, Failed> {
@@ -293,19 +351,23 @@ impl<R: Files<File = File>> System for HostSystem<'_, R> {
         Ok(())
     }
 
-    fn has(&mut self, path: &[u8], bytes: &[u8]) -> Result<bool, Failed> {
-        let Ok(has) = self.has_at(path, bytes) else {
-            self.note(Said::Fails);
-            return Err(Failed);
-        };
-        self.note(Said::Compares(path, bytes, has));
-        Ok(has)
+    fn has(&mut self, path: &[u8], bytes: &[u8]) -> Result<bool, ReadFault> {
+        match self.has_at(path, bytes) {
+            Ok(has) => {
+                self.note(Said::Compares(path, bytes, has));
+                Ok(has)
+            }
+            Err(fault) => {
+                self.note(Said::Fails);
+                Err(fault)
+            }
+        }
     }
 
-    fn rename(&mut self, from: &[u8], to: &[u8]) -> Result<(), Failed> {
-        if !self.renames(from, to) {
+    fn rename(&mut self, from: &[u8], to: &[u8]) -> Result<(), RenameFault> {
+        if let Err(fault) = self.renames(from, to) {
             self.note(Said::Fails);
-            return Err(Failed);
+            return Err(fault);
         }
         self.note(Said::Renames(from, to));
         Ok(())

@@ -3,6 +3,7 @@
 
 mod entries;
 mod files;
+mod host_answers;
 mod host_system;
 mod mem_system;
 mod system;
@@ -10,4 +11,4 @@ mod trail;
 
 pub use host_system::HostSystem;
 pub use mem_system::{Act, Does, MemSystem};
-pub use system::{Failed, FolderFault, MakeFault, System};
+pub use system::{Failed, FolderFault, MakeFault, Mode, ReadFault, RenameFault, System, There};

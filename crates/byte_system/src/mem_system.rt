@@ -5,7 +5,7 @@ ghost use Rattle.byte_system.specs.Disk.{no_files};
 ghost use Rattle.byte_system.specs.Quiet.{IsOne, IsQuiet};
 
 use crate::files::Files;
-use crate::system::{Failed, FolderFault, MakeFault, System};
+use crate::system::{Failed, FolderFault, MakeFault, Mode, ReadFault, RenameFault, System, There};
 use std::alloc::Global;
 
 /// What another process does. A file's number is how many files were made before it.
@@ -35,6 +35,7 @@ pub struct MemSystem {
     acts: Vec<Act>,
     fails: Vec<usize>,
     now: usize,
+    is_forbidden: bool,
 }
 
 impl MemSystem {
@@ -48,7 +49,15 @@ impl MemSystem {
             acts,
             fails,
             now: 0,
+            is_forbidden: false,
         }
+    }
+
+    /// From now on the folder forbids new files of this process.
+    pub fn forbid(&mut self)
+        ensures { ⟦<MemSystem as System>⟧.state self.new ≡ ⟦<MemSystem as System>⟧.state self.old }
+    {
+        self.is_forbidden = true;
     }
 
     /// The bytes of the file with a name.
@@ -72,7 +81,7 @@ fn do_act(files: &mut Files, by: usize, does: &Does)
 {
     match does {
         Does::Make(path) => {
-            let _ = files.make(by, path, true);
+            let _ = files.make(by, path, true, false);
         }
         Does::Lock(file) => {
             let _ = files.lock(by, *file, true);
@@ -117,9 +126,19 @@ fn others_act(files: &mut Files, acts: &[Act], me: usize, now: usize)
 impl System for MemSystem {
     ghost state = { λ s. record { me = s.me; first = Some no_files; trace = s.files.trail.events } };
 
-    fn make(&mut self, path: &[u8]) -> Result<usize, MakeFault> {
+    fn look(&mut self, path: &[u8]) -> Result<There, Failed> {
         let works = self.works();
-        self.files.make(self.me, path, works)
+        self.files.look(self.me, path, works)
+    }
+
+    fn make(&mut self, path: &[u8], _mode: Mode) -> Result<usize, MakeFault> {
+        let works = self.works();
+        self.files.make(self.me, path, works, self.is_forbidden)
+    }
+
+    fn make_alike(&mut self, file: usize, path: &[u8]) -> Result<bool, Failed> {
+        let works = self.works();
+        self.files.make_alike(self.me, file, path, works)
     }
 
     fn open(&mut self, path: &[u8]) -> Result<usize, Failed> {
@@ -152,12 +171,12 @@ impl System for MemSystem {
         self.files.sync(self.me, file, works)
     }
 
-    fn has(&mut self, path: &[u8], bytes: &[u8]) -> Result<bool, Failed> {
+    fn has(&mut self, path: &[u8], bytes: &[u8]) -> Result<bool, ReadFault> {
         let works = self.works();
         self.files.has(self.me, path, bytes, works)
     }
 
-    fn rename(&mut self, from: &[u8], to: &[u8]) -> Result<(), Failed> {
+    fn rename(&mut self, from: &[u8], to: &[u8]) -> Result<(), RenameFault> {
         let works = self.works();
         self.files.rename(self.me, from, to, works & (from != to))
     }

@@ -1,13 +1,52 @@
 //! The calls on files that a command makes. Other processes make calls before and between them.
 
 ghost use Rattle.byte_system.specs.Disk.{Locks, Looks, Truncates, Syncs, Compares, Renames, Unlinks, SyncsFolder};
-ghost use Rattle.byte_system.specs.System.{SystemState, Took, make_call, open_call, done_or_failed, told_or_failed, write_call};
+ghost use Rattle.byte_system.specs.System.{SystemState, Took, make_call, open_call, look_call, alike_call, done_or_failed, told_or_failed, write_call};
 
 /// Why no new file was made.
 #[derive(Clone, Copy, Debug, PartialEq, Eq)]
 pub enum MakeFault {
     Exists,
+    /// No file with this name can be made in its folder: the folder forbids it, or the name is too long.
+    Forbidden,
     NotMade,
+}
+
+/// Who may open a new file.
+#[derive(Clone, Copy, Debug, PartialEq, Eq)]
+pub enum Mode {
+    /// Its owner alone.
+    Private,
+    /// Whoever may open a file that the user makes.
+    Usual,
+}
+
+/// What has a name.
+#[derive(Clone, Copy, Debug, PartialEq, Eq)]
+pub enum There {
+    Nothing,
+    /// A plain file with this name alone.
+    Sole,
+    /// A plain file that has other names, too.
+    Shared,
+    /// A link, a folder, a device or a pipe.
+    Other,
+}
+
+/// Why a file could not be read to its end.
+#[derive(Clone, Copy, Debug, PartialEq, Eq)]
+pub enum ReadFault {
+    NotOpened,
+    /// Reading failed after this many bytes, which were the same.
+    Cut(usize),
+}
+
+/// Why a file did not get another name.
+#[derive(Clone, Copy, Debug, PartialEq, Eq)]
+pub enum RenameFault {
+    /// The system refuses that for this file, which may still be open to writing.
+    Refused,
+    NotRenamed,
 }
 
 /// Why a folder was not synced.
@@ -29,9 +68,18 @@ pub trait System {
     /// The process, the files at the start, and the calls of all processes.
     ghost state: { Self → SystemState };
 
+    /// What has the name. A link is not followed.
+    fn look(&mut self, path: &[u8]) -> Result<There, Failed>
+        ensures { Took (look_call path.now result) (state self.old) (state self.new) };
+
     /// Makes a new, empty file. There was none with this name.
-    fn make(&mut self, path: &[u8]) -> Result<usize, MakeFault>
+    fn make(&mut self, path: &[u8], mode: Mode) -> Result<usize, MakeFault>
         ensures { Took (make_call path.now result) (state self.old) (state self.new) };
+
+    /// Gives an open file the owner, the group and the mode of the one with the name, as far as the system permits. Returns whether
+    /// both are open to the same people; if not, the mode is unchanged.
+    fn make_alike(&mut self, file: usize, path: &[u8]) -> Result<bool, Failed>
+        ensures { Took (alike_call file path.now result) (state self.old) (state self.new) };
 
     /// Opens the file with the name, in order to lock it.
     fn open(&mut self, path: &[u8]) -> Result<usize, Failed>
@@ -58,11 +106,11 @@ pub trait System {
         ensures { Took (done_or_failed (Syncs file) result) (state self.old) (state self.new) };
 
     /// Whether the file with the name has exactly these bytes.
-    fn has(&mut self, path: &[u8], bytes: &[u8]) -> Result<bool, Failed>
+    fn has(&mut self, path: &[u8], bytes: &[u8]) -> Result<bool, ReadFault>
         ensures { Took (told_or_failed (Compares path.now bytes.now) result) (state self.old) (state self.new) };
 
     /// Gives the file with one name another name, whose file loses it. It fails if the two are one name.
-    fn rename(&mut self, from: &[u8], to: &[u8]) -> Result<(), Failed>
+    fn rename(&mut self, from: &[u8], to: &[u8]) -> Result<(), RenameFault>
         ensures { Took (done_or_failed (Renames from.now to.now) result) (state self.old) (state self.new) };
 
     /// Takes the name from its file.

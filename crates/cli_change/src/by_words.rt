@@ -6,7 +6,7 @@ use cli_open::engines::streams::Writing;
 use cli_open::engines::{CliFault, run_change};
 use cli_open::{OpenOffice, Target, open_target, word};
 use reg_again::{EffectsOf, OnceOf};
-use reg_keyed::ByWords;
+use reg_commands::ByWords;
 use std::alloc::Global;
 use std::fs::File;
 use std::io::{self, Write};

@@ -1,4 +1,11 @@
 //! Commands that change a register.
+
+ghost use Rattle.std.specs.Prelude.{◌≡◌, map, IfOk, IfSome, IfNone};
+ghost use Rattle.reg_supersede.specs.declared.fault.RefusedLine.{RefusedLine};
+ghost use Rattle.reg_supersede.specs.Engine.{Refuses};
+ghost use Rattle.cli_change.specs.declared.change.ToldLine.{ToldLine};
+ghost use Rattle.cli_change.specs.Lists.{IsAtLine, IsListFault, IsListDone, IsListOutcome};
+
 use crate::by_words::changed_by_words;
 use crate::changing::change_of;
 use crate::offices::{Desk, office_named, open_desk};
@@ -7,11 +14,11 @@ use clap::ArgMatches;
 use cli_open::engines::CliFault;
 use cli_open::engines::places::Place;
 use cli_open::{
-    Outcome, entries, entry, files_before, is_twice, listed, open_target, open_text, push_listed,
+    entries, entry, files_before, is_twice, listed, open_target, open_text, push_listed,
     push_words, word,
 };
-use reg_commands::{Retire, Supersede};
-use reg_keyed::{ByWords, RetireOf, SupersedeOf};
+use cli_outcome::{Done, NotDone, Outcome, all_done, ended};
+use reg_commands::{ByWords, Retire, RetireOf, Supersede, SupersedeOf};
 use reg_supersede::{RefusedLine, SupersedeFrom, refused_line, refused_word};
 use std::alloc::{AllocError, Global};
 use std::str;
@@ -22,15 +29,16 @@ pub const TWICE: &str = "error: standard input, -, is named twice";
 /// The complaint where there are no lines that could be left out.
 const NO_LIST: &str = "error: --keep-going needs --from";
 
-/// The end of `supersede`.
+/// Why `supersede` is not done.
 #[derive(Drop)]
-pub enum Superseded {
-    Plain(Outcome),
+pub enum ListFault {
+    Plain(CliFault),
     /// A line of the list refuses the command.
     AtLine(ToldLine),
-    /// These lines of the list were refused and left out; the others were done.
-    LeftLines(Vec<ToldLine>),
 }
+
+/// How `supersede` ended. The lines of a list that it left out were refused; the others were done.
+pub type Superseded = Outcome<ListFault, ToldLine>;
 
 /// A refused line of a list, and the word for which it is refused; empty if it is for none, or for one that is not UTF-8.
 #[derive(Drop)]
@@ -45,12 +53,19 @@ pub fn supersede(rt: &HostRuntime, matches: &ArgMatches<'_>) -> Superseded {
         return supersede_from(rt, matches, path);
     }
     if matches.get_flag("keep-going") {
-        return Superseded::Plain(Outcome::Misuse(NO_LIST));
+        return Err(NotDone::Misuse(NO_LIST));
     }
     if is_twice(matches.get_strs("BY").unwrap_or(&[])) {
-        return Superseded::Plain(Outcome::Misuse(TWICE));
+        return Err(NotDone::Misuse(TWICE));
     }
-    Superseded::Plain(Outcome::of(supersede_named(rt, matches)))
+    match supersede_named(rt, matches) {
+        Ok(()) => Ok(all_done(rt.alloc(), ())),
+        Err(fault) => stopped(fault),
+    }
+}
+
+fn stopped(fault: CliFault) -> Superseded {
+    Err(NotDone::Fault(ListFault::Plain(fault)))
 }
 
 fn supersede_named(rt: &HostRuntime, matches: &ArgMatches<'_>) -> Result<(), CliFault> {
@@ -88,11 +103,11 @@ fn supersede_named(rt: &HostRuntime, matches: &ArgMatches<'_>) -> Result<(), Cli
 fn supersede_from(rt: &HostRuntime, matches: &ArgMatches<'_>, path: &str) -> Superseded {
     let named = match office_named(matches) {
         Ok(named) => named,
-        Err(fault) => return Superseded::Plain(Outcome::Fault(fault)),
+        Err(fault) => return stopped(fault),
     };
     let mut desk = match open_desk(rt, rt.alloc(), named, word(matches, "office")) {
         Ok(desk) => desk,
-        Err(fault) => return Superseded::Plain(Outcome::Fault(fault)),
+        Err(fault) => return stopped(fault),
     };
     let outcome = supersede_from_at(rt, matches, path, &mut desk);
     desk.close();
@@ -107,12 +122,12 @@ fn supersede_from_at<Q: Place>(
 ) -> Superseded {
     let target = match open_target(rt, matches, word(matches, "out")) {
         Ok(target) => target,
-        Err(fault) => return Superseded::Plain(Outcome::Fault(fault)),
+        Err(fault) => return stopped(fault),
     };
     let number = target.next().saturating_add(files_before(matches));
     let mut list = match open_text(rt, number, path) {
         Ok(list) => list,
-        Err(fault) => return Superseded::Plain(Outcome::Fault(fault)),
+        Err(fault) => return stopped(fault),
     };
     let mut command = SupersedeFrom {
         list: &mut list,
@@ -138,60 +153,96 @@ struct RefusedLines {
     list: Vec<u8>,
 }
 
-// The outcome of a list with refused lines. Lines that were left out are reported only if the others were done.
+// The outcome of a list with refused lines, all of which were left out if the others were done.
 fn outcome_of_list(
     alloc: Global,
     answer: Result<(), CliFault>,
     refused: &RefusedLines,
     keep_going: bool,
-) -> Superseded {
-    if let Err(fault) = answer {
-        return match line_of(&fault, &refused.lines, keep_going) {
-            Some(line) => at_line(alloc, &refused.list, line),
-            None => Superseded::Plain(Outcome::Fault(fault)),
-        };
+) -> Superseded
+    ensures { IsListOutcome keep_going refused.now.lines.items answer result }
+{
+    match answer {
+        Ok(()) => left_lines(alloc, refused),
+        Err(fault) => Err(NotDone::Fault(list_fault(alloc, fault, refused, keep_going))),
     }
-    if refused.lines.is_empty() {
-        return Superseded::Plain(Outcome::Done);
+}
+
+// The outcome if the command is done.
+fn left_lines(alloc: Global, refused: &RefusedLines) -> Superseded
+    ensures { IsListDone refused.now.lines.items result }
+{
+    match told_lines(alloc, &refused.list, &refused.lines) {
+        Ok(left) => Ok(Done {
+            left,
+            differs: false,
+            brought: (),
+        }),
+        Err(_) => Err(NotDone::Fault(ListFault::Plain(CliFault::Memory))),
     }
-    match told_lines(alloc, refused) {
-        Ok(lines) => Superseded::LeftLines(lines),
-        Err(_) => Superseded::Plain(Outcome::Fault(CliFault::Memory)),
+}
+
+// The fault, or the line that is the reason for it.
+fn list_fault(alloc: Global, fault: CliFault, refused: &RefusedLines, keep_going: bool) -> ListFault
+    ensures { IsListFault keep_going refused.now.lines.items fault result }
+{
+    match line_of(&fault, &refused.lines, keep_going) {
+        Some(line) => at_line(alloc, &refused.list, line),
+        None => ListFault::Plain(fault),
     }
 }
 
 // The line that is the reason for the fault, if one is.
-fn line_of(fault: &CliFault, refused: &[RefusedLine], keep_going: bool) -> Option<RefusedLine> {
+fn line_of(fault: &CliFault, refused: &[RefusedLine], keep_going: bool) -> Option<RefusedLine>
+    ensures found { IfSome result (Refuses keep_going refused.now fault.now) }
+    ensures none { IfNone result ((line : RefusedLine) → ¬ (Refuses keep_going refused.now fault.now line)) }
+{
     refused_line(*fault, refused, keep_going)
 }
 
-fn at_line(alloc: Global, list: &[u8], line: RefusedLine) -> Superseded {
+fn at_line(alloc: Global, list: &[u8], line: RefusedLine) -> ListFault
+    ensures { IsAtLine line result }
+{
     match told_line(alloc, list, line) {
-        Ok(line) => Superseded::AtLine(line),
-        Err(_) => Superseded::Plain(Outcome::Fault(CliFault::Memory)),
+        Ok(line) => ListFault::AtLine(line),
+        Err(_) => ListFault::Plain(CliFault::Memory),
     }
 }
 
-fn told_lines(alloc: Global, refused: &RefusedLines) -> Result<Vec<ToldLine>, AllocError> {
+fn told_lines(
+    alloc: Global,
+    list: &[u8],
+    refused: &[RefusedLine],
+) -> Result<Vec<ToldLine>, AllocError>
+    ensures { IfOk result (λ told. map (λ (t : ToldLine). t.line) told.items ≡ refused.now) }
+{
     let mut lines = Vec::new(alloc);
-    for line in &refused.lines {
-        lines.push(told_line(alloc, &refused.list, *line)?)?;
+    for line in refused {
+        let told = told_line(alloc, list, *line)?;
+        lines.push(told)?;
     }
     Ok(lines)
 }
 
-fn told_line(alloc: Global, list: &[u8], line: RefusedLine) -> Result<ToldLine, AllocError> {
-    let word = refused_word(alloc, list, &line)?.unwrap_or(b"");
-    let word = String::from_str(alloc, str::from_utf8(word).unwrap_or(""))?;
+fn told_line(alloc: Global, list: &[u8], line: RefusedLine) -> Result<ToldLine, AllocError>
+    ensures { IfOk result (λ told. told.line ≡ line) }
+{
+    let word = word_of(alloc, list, &line)?;
     Ok(ToldLine { line, word })
 }
 
+// The word for which a line is refused.
+fn word_of(alloc: Global, list: &[u8], line: &RefusedLine) -> Result<String, AllocError> {
+    let word = refused_word(alloc, list, line)?.unwrap_or(b"");
+    String::from_str(alloc, str::from_utf8(word).unwrap_or(""))
+}
+
 /// `retire`.
-pub fn retire(rt: &HostRuntime, matches: &ArgMatches<'_>) -> Outcome {
+pub fn retire(rt: &HostRuntime, matches: &ArgMatches<'_>) -> Outcome<CliFault> {
     if is_twice(matches.get_strs("ENTRY").unwrap_or(&[])) {
-        return Outcome::Misuse(TWICE);
+        return Err(NotDone::Misuse(TWICE));
     }
-    Outcome::of(retired(rt, matches))
+    ended(rt.alloc(), retired(rt, matches))
 }
 
 fn retired(rt: &HostRuntime, matches: &ArgMatches<'_>) -> Result<(), CliFault> {

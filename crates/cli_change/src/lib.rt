@@ -7,7 +7,7 @@ mod changing;
 mod offices;
 mod once;
 
-pub use change::{Superseded, TWICE, ToldLine, retire, supersede};
+pub use change::{ListFault, Superseded, TWICE, ToldLine, retire, supersede};
 pub use changing::{change_of, changed, say_news};
 pub use offices::{Desk, misnamed, office, office_named, open_desk};
 pub use once::change_once;

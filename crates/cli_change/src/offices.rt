@@ -1,4 +1,8 @@
 //! Who changes a register: an office by its UUID, or one that works through its office file.
+
+ghost use Rattle.std.specs.Prelude.{None, IfOk};
+ghost use Rattle.cli_change.specs.Desks.{IsDesk};
+
 use clap::ArgMatches;
 use cli_open::engines::places::{FileId, FilePlace, Place, own_path};
 use cli_open::engines::streams::Writing;
@@ -75,18 +79,33 @@ pub fn open_desk<'a>(
     alloc: Global,
     named: Option<Uuid>,
     path: &'a str,
-) -> Result<Desk<FilePlace<'a, HostRuntime>>, CliFault> {
-    if let Some(replica) = named {
-        return Ok(Desk {
+) -> Result<Desk<FilePlace<'a, HostRuntime>>, CliFault>
+    ensures { IfOk result (λ desk. IsDesk named desk) }
+{
+    match named {
+        Some(replica) => Ok(Desk {
             replica,
             file: None,
-        });
+        }),
+        None => desk_at(rt, alloc, path),
     }
-    let file = open_office(rt, alloc, path)?;
-    Ok(Desk {
-        replica: file.file.replica(),
-        file: Some(file),
-    })
+}
+
+// The desk of the office of the office file at this path.
+fn desk_at<'a>(
+    rt: &'a HostRuntime,
+    alloc: Global,
+    path: &'a str,
+) -> Result<Desk<FilePlace<'a, HostRuntime>>, CliFault>
+    ensures { IfOk result (λ desk. IsDesk None desk) }
+{
+    match open_office(rt, alloc, path) {
+        Ok(office) => Ok(Desk {
+            replica: office.file.replica(),
+            file: Some(office),
+        }),
+        Err(fault) => Err(fault),
+    }
 }
 
 /// What is wrong with a command line that names an office, if clap does not check it: `--as` is the office of the office file in

@@ -1,6 +1,6 @@
 //! `take` of files, as an office with an office file.
 use crate::asked::take_options;
-use byte_late::LateSource;
+use byte_io::LateSource;
 use clap::ArgMatches;
 use cli_open::engines::CliFault;
 use cli_open::engines::places::Place;

@@ -5,20 +5,22 @@ use reg_hidden::hidden_in;
 use reg_merge::Merged;
 use reg_news::news_of;
 
+/// The register before and after a take.
+#[derive(Drop)]
+pub struct Gained {
+    pub before: Register,
+    pub after: Register,
+}
+
 /// Says what a take changed, and what cannot be undone of it, if sentences are asked for and there is memory for them.
-pub fn say_brought(
-    rt: &HostRuntime,
-    before: &Register,
-    after: &Register,
-    named: &Option<Named<'_>>,
-) {
+pub fn say_gained(rt: &HostRuntime, gained: &Gained, named: &Option<Named<'_>>) {
     let Some(named) = named else {
         return;
     };
-    if let Ok(news) = news_of(rt.alloc(), before, after) {
+    if let Ok(news) = news_of(rt.alloc(), &gained.before, &gained.after) {
         say(rt, &news, named);
     }
-    if let Ok(hidden) = hidden_in(rt.alloc(), before, after) {
+    if let Ok(hidden) = hidden_in(rt.alloc(), &gained.before, &gained.after) {
         say(rt, &hidden, named);
     }
 }

@@ -1,48 +1,25 @@
 //! `take` without files, which brings what an office made to its register.
-use crate::brought::say_brought;
+use crate::brought::Gained;
 use clap::ArgMatches;
-use cli_faults::{CommandName, Named};
 use cli_open::engines::places::Place;
-use cli_open::engines::registers::Register;
 use cli_open::engines::streams::Writing;
 use cli_open::engines::{CliFault, Keep, Store, run_change, run_print};
 use cli_open::guards::{OfficeFile, TriedFile, TriedShelf};
 use cli_open::{
-    OpenOffice, Opened, Outcome, Rows, answered, explains, open_office, open_register, open_target,
-    word,
+    OpenOffice, Opened, Rows, answered, explains, open_office, open_register, open_target, word,
 };
 use reg_catch::{CatchUp, Catching, WouldCatchUp, caught_up};
 use reg_watch::{Notes, Watched};
 use std::alloc::Global;
 use std::io::{self, Write};
 
-// The register before and after.
-#[derive(Drop)]
-struct Brought {
-    before: Register,
-    after: Register,
-}
-
-/// Joins all that the office of the office file at this path made to the register, and prints what changed. Where sentences are on,
-/// the last ones say what it brought.
-pub fn catch_up(rt: &HostRuntime, matches: &ArgMatches<'_>, path: &str) -> Outcome {
-    match caught_up_by(rt, matches, path) {
-        Ok(Some(brought)) => {
-            let named = Named::of(rt, CommandName::Take, matches).ok();
-            say_brought(rt, &brought.before, &brought.after, &named);
-            Outcome::Done
-        }
-        Ok(None) => Outcome::Done,
-        Err(fault) => Outcome::Fault(fault),
-    }
-}
-
-// The register before and after, where sentences are on and there was memory for copies.
-fn caught_up_by(
+/// Joins all that the office of the office file at this path made to the register, and prints what changed. Returns the register
+/// before and after, where sentences are on and there was memory for copies.
+pub fn catch_up(
     rt: &HostRuntime,
     matches: &ArgMatches<'_>,
     path: &str,
-) -> Result<Option<Brought>, CliFault> {
+) -> Result<Option<Gained>, CliFault> {
     let mut office = open_office(rt, rt.alloc(), path)?;
     let mut sink = Rows::sink(rt, matches, io::writer(rt));
     let answer = if matches.get_flag("dry-run") {
@@ -64,7 +41,7 @@ fn catch_up_to<Q: Place, W: Write>(
     matches: &ArgMatches<'_>,
     office: &mut OpenOffice<Q>,
     sink: &mut Writing<W>,
-) -> Result<Option<Brought>, CliFault> {
+) -> Result<Option<Gained>, CliFault> {
     let mut target = open_target(rt, matches, word(matches, "REG"))?;
     let OpenOffice { file, place } = office;
     let file = &*file;
@@ -83,7 +60,7 @@ fn changed<T: Keep, W: Write>(
     store: &mut T,
     tells: bool,
     sink: &mut Writing<W>,
-) -> Result<Option<Brought>, CliFault> {
+) -> Result<Option<Gained>, CliFault> {
     if !tells {
         run_change(alloc, store, &mut CatchUp, sink)?;
         return Ok(None);
@@ -104,7 +81,7 @@ fn changed<T: Keep, W: Write>(
     let Some(Ok(after)) = kept else {
         return Ok(None);
     };
-    Ok(Some(Brought { before, after }))
+    Ok(Some(Gained { before, after }))
 }
 
 // Prints what would change, and writes nothing.
@@ -113,7 +90,7 @@ fn try_to<W: Write>(
     matches: &ArgMatches<'_>,
     file: &OfficeFile,
     sink: &mut Writing<W>,
-) -> Result<Option<Brought>, CliFault> {
+) -> Result<Option<Gained>, CliFault> {
     let tells = explains(matches);
     match open_register(rt, rt.alloc(), matches, "REG", &None)? {
         Opened::File(source) => {
@@ -141,7 +118,7 @@ fn printed<T: Store, W: Write>(
     file: &OfficeFile,
     tells: bool,
     sink: &mut Writing<W>,
-) -> Result<Option<Brought>, CliFault> {
+) -> Result<Option<Gained>, CliFault> {
     let command = WouldCatchUp { file };
     if !tells {
         run_print(alloc, store, &command, sink)?;
@@ -161,7 +138,7 @@ fn printed<T: Store, W: Write>(
         return Ok(None);
     };
     match caught_up(alloc, file, &before) {
-        Ok(after) => Ok(Some(Brought { before, after })),
+        Ok(after) => Ok(Some(Gained { before, after })),
         Err(_) => Ok(None),
     }
 }

@@ -8,6 +8,7 @@ mod catching;
 mod exchange;
 mod taking;
 
+pub use brought::{Gained, say_gained};
 pub use cli_faults as faults;
 pub use exchange::{downgrade, merge, new, piece, seen, shelf, unshelf};
-pub use taking::take;
+pub use taking::{Taken, take};

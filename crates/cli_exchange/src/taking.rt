@@ -1,15 +1,18 @@
 //! The command `take`.
+
+ghost use Rattle.cli_outcome.specs.Outcome.{IsEnded, IsPart};
+ghost use Rattle.reg_take.specs.declared.effect.TakeEffect.{TakeEffect};
+
 use crate::as_office::take_as;
 use crate::asked::take_options;
-use crate::brought::say_brought;
+use crate::brought::Gained;
 use crate::catching::catch_up;
-use byte_late::{LateFile, LateSource};
+use byte_io::{LateFile, LateSource};
 use clap::ArgMatches;
-use cli_faults::sentences::Shown;
-use cli_faults::{CommandName, Named, explain};
 use cli_open::engines::CliFault;
-use cli_open::{Outcome, Rows, answered, explains, office_file, open_register, open_target, word};
-use reg_take::{TakeEffect, run_take, try_take};
+use cli_open::{Rows, answered, office_file, open_register, open_target, word};
+use cli_outcome::{Done, NotDone, Outcome, all_done};
+use reg_take::{LeftOut, TakeEffect, run_take, try_take};
 use std::alloc::{AllocError, Global};
 use std::io;
 use std::rt::Files;
@@ -17,26 +20,57 @@ use std::rt::Files;
 /// The complaint if there is nothing to take.
 const NO_FILE: &str = "error: take needs a FILE, or an office file";
 
+/// How a take ended: with the files that it left out, and with what the others brought.
+pub type Taken = Outcome<CliFault, LeftOut, Option<Gained>>;
+
 /// `take`. The register is opened first, and each file when its turn comes. Without files it brings what an office made.
-pub fn take(rt: &HostRuntime, matches: &ArgMatches<'_>) -> Outcome {
+pub fn take(rt: &HostRuntime, matches: &ArgMatches<'_>) -> Taken {
     let paths = matches.get_strs("FILE").unwrap_or(&[]);
     if paths.is_empty() {
         return match office_file(matches) {
-            Some(path) => catch_up(rt, matches, path),
-            None => Outcome::Misuse(NO_FILE),
+            Some(path) => caught_up(rt.alloc(), catch_up(rt, matches, path)),
+            None => Err(NotDone::Misuse(NO_FILE)),
         };
     }
     let Ok(mut files) = late_files(rt, rt.alloc(), paths) else {
-        return Outcome::Fault(CliFault::Memory);
+        return Err(NotDone::Fault(CliFault::Memory));
     };
     let taken = match office_file(matches) {
         Some(path) => take_as(rt, matches, path, &mut files),
         None if matches.get_flag("dry-run") => taken_dry(rt, matches, &mut files),
         None => taken_in(rt, matches, &mut files),
     };
+    joined(taken)
+}
+
+// A take of files that is done left out what its engine left out.
+fn joined(taken: Result<TakeEffect, CliFault>) -> Taken
+    ensures { IsPart (λ (t : TakeEffect). t.left.items) taken result }
+{
     match taken {
-        Ok(effect) => tell(rt, matches, paths, &effect),
-        Err(fault) => Outcome::Fault(fault),
+        Ok(effect) => {
+            let TakeEffect {
+                before,
+                after,
+                left,
+            } = effect;
+            Ok(Done {
+                left,
+                differs: false,
+                brought: Some(Gained { before, after }),
+            })
+        }
+        Err(fault) => Err(NotDone::Fault(fault)),
+    }
+}
+
+// A take without files leaves nothing out.
+fn caught_up(alloc: Global, answer: Result<Option<Gained>, CliFault>) -> Taken
+    ensures { IsEnded answer result }
+{
+    match answer {
+        Ok(gained) => Ok(all_done(alloc, gained)),
+        Err(fault) => Err(NotDone::Fault(fault)),
     }
 }
 
@@ -88,30 +122,5 @@ fn taken_dry<S: LateSource>(
     match answered(rt.alloc(), sink, answer) {
         Ok(answer) => answer,
         Err(fault) => Err(fault),
-    }
-}
-
-// Names the files that are left out, and says what the others brought, each with its sentences if that is asked for. The status is
-// that of the first file that is left out.
-fn tell(
-    rt: &HostRuntime,
-    matches: &ArgMatches<'_>,
-    paths: &[&str],
-    effect: &TakeEffect,
-) -> Outcome {
-    let named = if explains(matches) {
-        Named::of(rt, CommandName::Take, matches).ok()
-    } else {
-        None
-    };
-    for one in &effect.left {
-        let path = Shown(paths.get(one.file()).copied().unwrap_or(""));
-        let _ = eprintln!(rt; "left out: {path}: {one}");
-        explain(rt, one.fault(), &named);
-    }
-    say_brought(rt, &effect.before, &effect.after, &named);
-    match effect.left.first() {
-        Some(first) => Outcome::LeftOut(first.fault().status()),
-        None => Outcome::Done,
     }
 }

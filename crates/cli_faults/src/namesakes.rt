@@ -1,33 +1,26 @@
 //! Keys that one word of the command line names: letters of their authorities differ in case, or the authority ends at another colon.
-use cli_open::engines::operations::{OpId, Status};
+use cli_open::engines::operations::OpId;
 use cli_open::engines::registers::Register;
-use reg_keys::{has_key, rows_in_order};
-use reg_report::Row;
+use reg_keys::has_key;
+use reg_report::{Row, find_row, is_live, rows};
 use std::alloc::{AllocError, Global};
 
 /// Whether an entry that is not retired has another key than this one, although the key of this one names it too. None if the register
 /// has no such entry, or if memory runs out.
 pub fn has_namesake(alloc: Global, register: &Register, entry: OpId) -> Option<bool> {
-    let rows = rows_in_order(alloc, register).ok()?;
-    let Some(own) = row_of(&rows, entry) else {
+    let Ok(rows) = rows(alloc, register) else {
+        return None;
+    };
+    let Some(own) = find_row(&rows, entry) else {
         return None;
     };
     let word = word_of(alloc, own).ok()?;
     for row in &rows {
-        if row.status != Status::Retired && has_key(row, &word) && !have_one_key(row, own) {
+        if is_live(row) && has_key(row, &word) && !have_one_key(row, own) {
             return Some(true);
         }
     }
     Some(false)
-}
-
-fn row_of(rows: &[Row], entry: OpId) -> Option<&Row> {
-    for row in rows {
-        if row.entry == entry {
-            return Some(row);
-        }
-    }
-    None
 }
 
 // The key of the row as a word.

@@ -9,7 +9,7 @@ use cli_open::engines::streams::read_up_to;
 use cli_open::engines::{CliFault, InputFault, OfFile, OnShelf, OutFault, Print, Refusal, Store};
 use cli_open::{open, open_to_read};
 use cli_sentences::{Command, FileName, Found, Looks, Paths};
-use desk_texts::Heading;
+use reg_texts::Heading;
 use std::{fs, str};
 
 /// The first bytes of a text, which are read to tell it from other files.

@@ -1,13 +1,14 @@
 //! The commands `export` and `graph`.
 use crate::into::export_into;
+use crate::left::{Exported, left_out, room_for_left};
 use clap::ArgMatches;
+use cli_open::engines::CliFault;
 use cli_open::engines::operations::OpId;
 use cli_open::engines::streams::Writing;
-use cli_open::engines::{CliFault, Refusal};
-use cli_open::{Outcome, names_again, open_register, print_of, wanted, word};
+use cli_open::{names_again, open_register, print_of, wanted, word};
+use cli_outcome::{NotDone, ended};
 use reg_commands::Export;
-use reg_formats::{Format, Graph, run_handed};
-use reg_into::Choice;
+use reg_export::{Choice, Format, Graph, LeftOut, run_handed};
 use std::io;
 
 const NOT_HANDED: &str =
@@ -16,25 +17,25 @@ const NOT_HANDED: &str =
 const NOT_ALL: &str = "error: --all goes with --proj-sql";
 
 /// `export`.
-pub fn export(rt: &HostRuntime, matches: &ArgMatches<'_>) -> Outcome {
+pub fn export(rt: &HostRuntime, matches: &ArgMatches<'_>) -> Exported {
     let choice = Choice {
         status: wanted(word(matches, "status")),
         authority: matches.get_str("authority"),
     };
     let keep_going = matches.get_flag("keep-going");
     if matches.get_flag("all") && !matches.get_flag("proj-sql") {
-        return Outcome::Misuse(NOT_ALL);
+        return Err(NotDone::Misuse(NOT_ALL));
     }
     if matches.contains_id("into") {
         return export_into(rt, matches, &choice, keep_going);
     }
     if let Some(format) = format_of(matches) {
-        return Outcome::of(export_as(rt, matches, format, &choice, keep_going));
+        return export_as(rt, matches, format, &choice, keep_going);
     }
     if choice.status.is_some() || choice.authority.is_some() || keep_going {
-        return Outcome::Misuse(NOT_HANDED);
+        return Err(NotDone::Misuse(NOT_HANDED));
     }
-    Outcome::of(print_of(rt, matches, &Export))
+    ended(rt.alloc(), print_of(rt, matches, &Export))
 }
 
 /// `graph`.
@@ -64,18 +65,21 @@ fn format_of(matches: &ArgMatches<'_>) -> Option<Format> {
     None
 }
 
-// Opens the register and prints what is handed on. A key that was left out is the fault.
+// Opens the register and prints what is handed on.
 fn export_as(
     rt: &HostRuntime,
     matches: &ArgMatches<'_>,
     format: Format,
     choice: &Choice<'_>,
     keep_going: bool,
-) -> Result<(), CliFault> {
+) -> Exported {
+    let room = match room_for_left(rt.alloc()) {
+        Ok(room) => room,
+        Err(fault) => return Err(NotDone::Fault(fault)),
+    };
     match print_as(rt, matches, format, choice, keep_going) {
-        Ok(None) => Ok(()),
-        Ok(Some(id)) => Err(CliFault::Refused(Refusal::KeyTaken(id))),
-        Err(fault) => Err(fault),
+        Ok(taken) => left_out(room, &LeftOut { taken, long: None }),
+        Err(fault) => Err(NotDone::Fault(fault)),
     }
 }
 

@@ -1,25 +1,26 @@
 //! The command `export --into`.
+use crate::left::{Exported, left_out, room_for_left};
 use byte_folder::SystemFolder;
 use clap::ArgMatches;
-use cli_open::engines::operations::OpId;
-use cli_open::engines::{CliFault, Refusal};
-use cli_open::{Outcome, explains, open_register, word};
-use reg_into::{Choice, LeftOut, run_into};
+use cli_open::engines::CliFault;
+use cli_open::{open_register, word};
+use cli_outcome::NotDone;
+use reg_export::{Choice, LeftOut, run_into};
 
-const NAME_TOO_LONG: &str = "NameTooLong";
-
-const IS_LONG: &str = "the name of its file would have more than 255 bytes";
-
-/// Opens the register, and puts a folder with a file for each key in place. Keys that were left out are named.
+/// Opens the register, and puts a folder with a file for each key in place.
 pub fn export_into(
     rt: &HostRuntime,
     matches: &ArgMatches<'_>,
     choice: &Choice<'_>,
     keep_going: bool,
-) -> Outcome {
+) -> Exported {
+    let room = match room_for_left(rt.alloc()) {
+        Ok(room) => room,
+        Err(fault) => return Err(NotDone::Fault(fault)),
+    };
     match put_into(rt, matches, choice, keep_going) {
-        Ok(left) => left_out(rt, matches, &left),
-        Err(fault) => Outcome::Fault(fault),
+        Ok(left) => left_out(room, &left),
+        Err(fault) => Err(NotDone::Fault(fault)),
     }
 }
 
@@ -41,25 +42,4 @@ fn put_into(
     };
     drop(place);
     answer
-}
-
-// A key with two texts is the fault; below the line of an entry whose name is too long.
-fn left_out(rt: &HostRuntime, matches: &ArgMatches<'_>, left: &LeftOut) -> Outcome {
-    if let Some(id) = left.long {
-        tell_long(rt, id, explains(matches));
-    }
-    if let Some(id) = left.taken {
-        return Outcome::Fault(CliFault::Refused(Refusal::KeyTaken(id)));
-    }
-    match left.long {
-        Some(_) => Outcome::LeftOut(1),
-        None => Outcome::Done,
-    }
-}
-
-fn tell_long(rt: &HostRuntime, id: OpId, explains: bool) {
-    let _ = eprintln!(rt; "left out: {NAME_TOO_LONG} {id}");
-    if explains {
-        let _ = eprintln!(rt; "{IS_LONG}");
-    }
 }

@@ -3,8 +3,7 @@ use clap::ArgMatches;
 use cli_open::engines::CliFault;
 use cli_open::engines::streams::Writing;
 use cli_open::{entry, names_again, open_register, print_of, word};
-use reg_commands::{Form, Ops, Show, Wkt};
-use reg_keyed::{ByWord, PrintOf, ShowOf, WktOf};
+use reg_commands::{ByWord, Form, Ops, PrintOf, Show, ShowOf, Wkt, WktOf};
 use reg_page::{Page, RULES, run_page};
 use std::io;
 

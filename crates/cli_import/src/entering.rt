@@ -3,19 +3,25 @@ use clap::ArgMatches;
 use cli_change::{Desk, change_once, office_named, open_desk};
 use cli_open::engines::places::Place;
 use cli_open::engines::streams::Source;
-use cli_open::{Outcome, Target, explains, files_before, open, open_target, word};
+use cli_open::{Target, explains, files_before, open, open_target, word};
+use cli_outcome::{Outcome, ended};
 use reg_desk::{CliFault, Enter, Explained, Recorded, explained_fault};
+use std::alloc::Global;
 use std::fs::File;
 
 /// `enter`. It parses the replica, and then opens the files.
-pub fn enter(rt: &HostRuntime, matches: &ArgMatches<'_>) -> Result<Outcome, Explained> {
+pub fn enter(rt: &HostRuntime, matches: &ArgMatches<'_>) -> Outcome<Explained> {
+    ended(rt.alloc(), entered(rt, matches))
+}
+
+fn entered(rt: &HostRuntime, matches: &ArgMatches<'_>) -> Result<(), Explained> {
     let named = match office_named(matches) {
         Ok(named) => named,
-        Err(fault) => return Ok(Outcome::Fault(fault)),
+        Err(fault) => return Err(without_note(rt.alloc(), fault)),
     };
     let mut desk = match open_desk(rt, rt.alloc(), named, word(matches, "office")) {
         Ok(desk) => desk,
-        Err(fault) => return Ok(Outcome::Fault(fault)),
+        Err(fault) => return Err(without_note(rt.alloc(), fault)),
     };
     let answer = enter_at(rt, matches, &mut desk);
     desk.close();
@@ -26,20 +32,20 @@ fn enter_at<Q: Place>(
     rt: &HostRuntime,
     matches: &ArgMatches<'_>,
     desk: &mut Desk<Q>,
-) -> Result<Outcome, Explained> {
+) -> Result<(), Explained> {
     let path = word(matches, "text");
     let target = match open_target(rt, matches, word(matches, "out")) {
         Ok(target) => target,
-        Err(fault) => return Ok(Outcome::Fault(fault)),
+        Err(fault) => return Err(without_note(rt.alloc(), fault)),
     };
     let number = target.next().saturating_add(files_before(matches));
     let mut text = match open(rt, number, path) {
         Ok(file) => Recorded::new(rt.alloc(), file),
-        Err(fault) => return Ok(Outcome::Fault(fault)),
+        Err(fault) => return Err(without_note(rt.alloc(), fault)),
     };
     match enter_text(rt, matches, desk, target, &mut text) {
-        Ok(()) => Ok(Outcome::Done),
-        Err(fault) => not_entered(rt, matches, path, &text, fault),
+        Ok(()) => Ok(()),
+        Err(fault) => Err(not_entered(rt, matches, path, &text, fault)),
     }
 }
 
@@ -59,16 +65,24 @@ fn enter_text<Q: Place, P: Place + Drop, X: Source>(
     change_once(rt, matches, desk, target, command)
 }
 
-// The outcome if the text at the path was not entered.
+// A fault without an explanation.
+fn without_note(alloc: Global, fault: CliFault) -> Explained {
+    Explained {
+        fault,
+        note: Vec::new(alloc),
+    }
+}
+
+// Why the text at the path was not entered.
 fn not_entered<X: Source>(
     rt: &HostRuntime,
     matches: &ArgMatches<'_>,
     path: &str,
     text: &Recorded<X>,
     fault: CliFault,
-) -> Result<Outcome, Explained> {
+) -> Explained {
     if explains(matches) {
-        return Err(explained_fault(rt.alloc(), path, text, fault));
+        return explained_fault(rt.alloc(), path, text, fault);
     }
-    Ok(Outcome::Fault(fault))
+    without_note(rt.alloc(), fault)
 }

@@ -1,16 +1,17 @@
 //! The command `import`.
-use crate::brought::{Brought, say_brought};
+use crate::brought::Brought;
 use crate::tried::Tried;
-use byte_late::{LateFile, LateSource};
+use byte_io::{LateFile, LateSource};
 use clap::ArgMatches;
 use cli_change::{Desk, Notes, TWICE, Watched, office_named, open_desk};
 use cli_open::engines::places::Place;
 use cli_open::engines::{Either, Keep};
 use cli_open::guards::{OfficeFile, TriedFile, TriedShelf};
 use cli_open::{
-    Outcome, Rows, STANDARD_INPUT, STANDARD_INPUT_PATH, Target, answered, explains, files_before,
-    is_twice, open_target, word,
+    Rows, STANDARD_INPUT, STANDARD_INPUT_PATH, Target, answered, explains, files_before, is_twice,
+    open_target, word,
 };
+use cli_outcome::{NotDone, Outcome, all_done};
 use reg_desk::{
     CliFault, Differs, FileDisk, HasRoom, ImportFault, ImportOptions, InputFault, InputOf, OfFile,
     OnShelf, Reading, Source, Unimported, Writing, run_import, try_import,
@@ -27,32 +28,40 @@ pub struct NotImported {
     pub brought: Brought,
 }
 
-/// `import`. Where sentences are on, the last ones say what it brought.
-pub fn import(rt: &HostRuntime, matches: &ArgMatches<'_>) -> Result<Outcome, NotImported> {
+/// How an import ended, and what it brought, if sentences are on.
+pub type Imported = Outcome<NotImported, NotImported, Brought>;
+
+// The outcome of an import that did not begin.
+fn unbegun(alloc: Global, fault: CliFault) -> Imported {
+    Err(NotDone::Fault(NotImported {
+        why: Unimported::plain(alloc, fault),
+        brought: Brought::nothing(alloc),
+    }))
+}
+
+/// `import`.
+pub fn import(rt: &HostRuntime, matches: &ArgMatches<'_>) -> Imported {
     let paths = matches.get_strs("FILE").unwrap_or(&[]);
     if is_twice(paths) {
-        return Ok(Outcome::Misuse(TWICE));
+        return Err(NotDone::Misuse(TWICE));
     }
     let named = match office_named(matches) {
         Ok(named) => named,
-        Err(fault) => return Ok(Outcome::Fault(fault)),
+        Err(fault) => return unbegun(rt.alloc(), fault),
     };
     let Ok(names) = names_of(rt.alloc(), paths) else {
-        return Ok(Outcome::Fault(CliFault::Memory));
+        return unbegun(rt.alloc(), CliFault::Memory);
     };
     let mut desk = match open_desk(rt, rt.alloc(), named, word(matches, "office")) {
         Ok(desk) => desk,
-        Err(fault) => return Ok(Outcome::Fault(fault)),
+        Err(fault) => return unbegun(rt.alloc(), fault),
     };
     let mut brought = Brought::nothing(rt.alloc());
     let answer = import_at(rt, matches, &mut desk, paths, &names, &mut brought);
     desk.close();
     match answer {
-        Ok(outcome) => {
-            say_brought(rt, &brought);
-            Ok(outcome)
-        }
-        Err(why) => Err(NotImported { why, brought }),
+        Ok(()) => Ok(all_done(rt.alloc(), brought)),
+        Err(why) => Err(NotDone::Fault(NotImported { why, brought })),
     }
 }
 
@@ -72,17 +81,17 @@ fn import_at<Q: Place>(
     paths: &[&str],
     names: &[String],
     brought: &mut Brought,
-) -> Result<Outcome, Unimported> {
+) -> Result<(), Unimported> {
     let target = match open_target(rt, matches, out_of(matches)) {
         Ok(target) => target,
-        Err(fault) => return Ok(Outcome::Fault(fault)),
+        Err(fault) => return Err(Unimported::plain(rt.alloc(), fault)),
     };
     let Ok(mut files) = late_texts(rt, rt.alloc(), paths) else {
-        return Ok(Outcome::Fault(CliFault::Memory));
+        return Err(Unimported::plain(rt.alloc(), CliFault::Memory));
     };
     let first = target.next().saturating_add(files_before(matches));
     let answer = import_from(rt, matches, desk, target, &mut files, names, brought);
-    with_openings(answer, &files, first)
+    with_openings(rt.alloc(), answer, &files, first)
 }
 
 // The path of OUT. A dry run has none.
@@ -122,17 +131,19 @@ fn late_texts<'a, R: Files>(
 
 // Turns "could not be read" into `NotOpened` for files that did not open. The first file has this number.
 fn with_openings<S: LateSource>(
-    answer: Result<Outcome, Unimported>,
+    alloc: Global,
+    answer: Result<(), Unimported>,
     files: &[S],
     first: usize,
-) -> Result<Outcome, Unimported> {
+) -> Result<(), Unimported> {
     match answer {
-        Ok(outcome) => Ok(outcome),
+        Ok(()) => Ok(()),
         Err(why) => {
             let Unimported { fault, notes } = why;
             match fault {
                 ImportFault::Cli(fault) => {
-                    Ok(Outcome::Fault(fault_of_opening(fault, files, first)))
+                    let fault = fault_of_opening(fault, files, first);
+                    Err(Unimported::plain(alloc, fault))
                 }
                 fault => Err(Unimported { fault, notes }),
             }
@@ -165,7 +176,7 @@ fn import_from<Q: Place, P: Place + Drop, S: Source>(
     files: &mut [S],
     names: &[String],
     brought: &mut Brought,
-) -> Result<Outcome, Unimported> {
+) -> Result<(), Unimported> {
     let order = ImportOptions {
         replica: desk.replica,
         differs: differs(word(matches, "differs")),
@@ -192,9 +203,8 @@ fn import_from<Q: Place, P: Place + Drop, S: Source>(
         import_to(rt, matches, desk, target, files, &order, &mut sink, brought)
     };
     match answered(rt.alloc(), sink, answer) {
-        Ok(Ok(())) => Ok(Outcome::Done),
-        Ok(Err(why)) => Err(why),
-        Err(fault) => Ok(Outcome::Fault(fault)),
+        Ok(answer) => answer,
+        Err(fault) => Err(Unimported::plain(rt.alloc(), fault)),
     }
 }
 

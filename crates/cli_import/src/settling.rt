@@ -2,15 +2,16 @@
 use clap::ArgMatches;
 use cli_change::{TWICE, changed, office_named, open_desk};
 use cli_open::engines::CliFault;
-use cli_open::{Outcome, entries, is_twice, listed, push_listed, word};
+use cli_open::{entries, is_twice, listed, push_listed, word};
+use cli_outcome::{NotDone, Outcome, ended};
 use reg_desk::{Settle, SettleEqual};
 
 /// `settle`.
-pub fn settle(rt: &HostRuntime, matches: &ArgMatches<'_>) -> Outcome {
+pub fn settle(rt: &HostRuntime, matches: &ArgMatches<'_>) -> Outcome<CliFault> {
     if is_twice(matches.get_strs("KEEP").unwrap_or(&[])) {
-        return Outcome::Misuse(TWICE);
+        return Err(NotDone::Misuse(TWICE));
     }
-    Outcome::of(settled(rt, matches))
+    ended(rt.alloc(), settled(rt, matches))
 }
 
 fn settled(rt: &HostRuntime, matches: &ArgMatches<'_>) -> Result<(), CliFault> {

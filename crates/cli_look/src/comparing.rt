@@ -1,14 +1,15 @@
 //! `compare`: what differs between the texts of entries, and of a file.
-use crate::look::told;
+use crate::look::tells;
 use clap::ArgMatches;
-use cli_open::{Outcome, entry, explains, next_file, open_register, open_text, word};
-use desk_texts::{
-    Compare, CompareKey, CompareWith, WithFault, run_compared_where_read, run_compared_with,
-    run_differs,
-};
+use cli_open::{entry, explains, next_file, open_register, open_text, word};
+use cli_outcome::{NotDone, Outcome, compared};
 use reg_desk::{
     ByWord, CliFault, ImportFault, OpId, Print, Problem, Recorded, Source, Unimported, Writing,
     explain_within,
+};
+use reg_texts::{
+    Compare, CompareKey, CompareWith, WithFault, run_compared_where_read, run_compared_with,
+    run_differs,
 };
 use std::alloc::Global;
 use std::io;
@@ -20,23 +21,33 @@ const ALONE: &str = "error: compare needs a key, two entries, or --with FILE; on
 const NO_FILE: &str = "error: --keep-going needs --with FILE";
 
 /// `compare`.
-pub fn compare(rt: &HostRuntime, matches: &ArgMatches<'_>) -> Result<Outcome, Unimported> {
+pub fn compare(rt: &HostRuntime, matches: &ArgMatches<'_>) -> Outcome<Unimported> {
     if let Some(path) = matches.get_str("with") {
-        return compare_with(rt, matches, path);
+        let answer = compare_with(rt, matches, path);
+        return compared(rt.alloc(), tells(matches), answer);
     }
     if matches.get_flag("keep-going") {
-        return Ok(Outcome::Misuse(NO_FILE));
+        return Err(NotDone::Misuse(NO_FILE));
     }
     if matches.get_str("OTHER").is_none()
         && OpId::parse(word(matches, "ENTRY").as_bytes()).is_some()
     {
-        return Ok(Outcome::Misuse(ALONE));
+        return Err(NotDone::Misuse(ALONE));
     }
-    Ok(told(matches, compared(rt, matches)))
+    let answer = with_plain_fault(rt.alloc(), compare_texts(rt, matches));
+    compared(rt.alloc(), tells(matches), answer)
+}
+
+/// An answer, or a fault without an explanation.
+pub fn with_plain_fault<A>(alloc: Global, answer: Result<A, CliFault>) -> Result<A, Unimported> {
+    match answer {
+        Ok(answer) => Ok(answer),
+        Err(fault) => Err(Unimported::plain(alloc, fault)),
+    }
 }
 
 // Two entries, or those of a key.
-fn compared(rt: &HostRuntime, matches: &ArgMatches<'_>) -> Result<bool, CliFault> {
+fn compare_texts(rt: &HostRuntime, matches: &ArgMatches<'_>) -> Result<bool, CliFault> {
     let one = word(matches, "ENTRY");
     let Some(other) = matches.get_str("OTHER") else {
         let key = one.as_bytes();
@@ -91,14 +102,14 @@ fn compare_with(
     rt: &HostRuntime,
     matches: &ArgMatches<'_>,
     path: &str,
-) -> Result<Outcome, Unimported> {
+) -> Result<bool, Unimported> {
     let register = match open_register(rt, rt.alloc(), matches, "REG", &None) {
         Ok(register) => register,
-        Err(fault) => return Ok(Outcome::Fault(fault)),
+        Err(fault) => return Err(Unimported::plain(rt.alloc(), fault)),
     };
     let mut text = match open_text(rt, next_file(&register), path) {
         Ok(file) => Recorded::new(rt.alloc(), file),
-        Err(fault) => return Ok(Outcome::Fault(fault)),
+        Err(fault) => return Err(Unimported::plain(rt.alloc(), fault)),
     };
     let mut sink = Writing::new(io::writer(rt));
     let mut store = register.reading();
@@ -106,15 +117,15 @@ fn compare_with(
     if matches.get_flag("keep-going") {
         return match run_compared_where_read(rt.alloc(), &mut store, name, &mut text, &mut sink) {
             Ok(part) => match part.left {
-                Some(why) => uncompared(rt.alloc(), matches, path, &text, why),
-                None => Ok(told(matches, Ok(part.differs))),
+                Some(why) => Err(uncompared(rt.alloc(), matches, path, &text, why)),
+                None => Ok(part.differs),
             },
-            Err(fault) => Ok(Outcome::Fault(fault)),
+            Err(fault) => Err(Unimported::plain(rt.alloc(), fault)),
         };
     }
     match run_compared_with(rt.alloc(), &mut store, name, &mut text, &mut sink) {
-        Ok(differs) => Ok(told(matches, Ok(differs))),
-        Err(why) => uncompared(rt.alloc(), matches, path, &text, why),
+        Ok(differs) => Ok(differs),
+        Err(why) => Err(uncompared(rt.alloc(), matches, path, &text, why)),
     }
 }
 
@@ -125,9 +136,9 @@ fn uncompared<S: Source>(
     path: &str,
     text: &Recorded<S>,
     why: WithFault,
-) -> Result<Outcome, Unimported> {
+) -> Unimported {
     match why {
-        WithFault::Cli(fault) => Ok(Outcome::Fault(fault)),
+        WithFault::Cli(fault) => Unimported::plain(alloc, fault),
         WithFault::Refused {
             fault,
             at,
@@ -143,14 +154,14 @@ fn uncompared<S: Source>(
                 Ok(Vec::new(alloc))
             };
             let Ok(notes) = notes else {
-                return Ok(Outcome::Fault(CliFault::Memory));
+                return Unimported::plain(alloc, CliFault::Memory);
             };
             let fault = ImportFault::Refused {
                 problem: Problem::Unread(fault),
                 place: at,
                 file,
             };
-            Err(Unimported { fault, notes })
+            Unimported { fault, notes }
         }
     }
 }

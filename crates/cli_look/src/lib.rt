@@ -8,6 +8,6 @@ mod reporting;
 
 pub use comparing::compare;
 pub use linting::lint;
-pub use look::{check, diff, find, log, offices, status, texts};
+pub use look::{check, diff, find, log, offices, say_hidden, status, texts};
 pub use reg_desk as desk;
 pub use reporting::report;

@@ -1,9 +1,9 @@
 //! `lint`: what an expert would ask about the entries of a register, or about texts.
-use crate::look::told;
+use crate::comparing::with_plain_fault;
+use crate::look::tells;
 use clap::ArgMatches;
-use cli_open::{
-    Outcome, Rows, answered, explains, is_twice, next_file, open, open_register, open_text,
-};
+use cli_open::{Rows, answered, explains, is_twice, next_file, open, open_register, open_text};
+use cli_outcome::{NotDone, Outcome, compared};
 use desk_lint::{
     ANY_RULES, AnyRule, Subject, TextsFault, read_texts, run_lint, run_lint_subjects, usual_of,
 };
@@ -21,24 +21,36 @@ const NO_RULE: &str =
 const TWICE: &str = "error: standard input, -, is named twice";
 
 /// `lint`.
-pub fn lint(rt: &HostRuntime, matches: &ArgMatches<'_>) -> Result<Outcome, Unimported> {
+pub fn lint(rt: &HostRuntime, matches: &ArgMatches<'_>) -> Outcome<Unimported> {
     let rules = match rules_of(rt.alloc(), matches) {
         Ok(Some(rules)) => rules,
-        Ok(None) => return Ok(Outcome::Misuse(NO_RULE)),
-        Err(_) => return Ok(Outcome::Fault(CliFault::Memory)),
+        Ok(None) => return Err(NotDone::Misuse(NO_RULE)),
+        Err(_) => {
+            let why = Unimported::plain(rt.alloc(), CliFault::Memory);
+            return Err(NotDone::Fault(why));
+        }
     };
     let paths = matches.get_strs("texts").unwrap_or(&[]);
     if is_twice(paths) {
-        return Ok(Outcome::Misuse(TWICE));
+        return Err(NotDone::Misuse(TWICE));
     }
+    let answer = lint_all(rt, matches, &rules, paths);
+    compared(rt.alloc(), tells(matches), answer)
+}
+
+// The texts of these files, or the register if there are none. Answers whether there are rows.
+fn lint_all(
+    rt: &HostRuntime,
+    matches: &ArgMatches<'_>,
+    rules: &[AnyRule],
+    paths: &[&str],
+) -> Result<bool, Unimported> {
     if paths.is_empty() {
-        return Ok(told(matches, lint_register(rt, matches, &rules)));
+        return with_plain_fault(rt.alloc(), lint_register(rt, matches, rules));
     }
     let subjects = read_all(rt, matches, paths)?;
-    Ok(told(
-        matches,
-        lint_subjects(rt, matches, &rules, paths.len(), &subjects),
-    ))
+    let answer = lint_subjects(rt, matches, rules, paths.len(), &subjects);
+    with_plain_fault(rt.alloc(), answer)
 }
 
 // The rules of the option, or those that need not be named; each once, in the order of all rules. None if a word is the name of no rule.

@@ -1,18 +1,19 @@
 //! Commands that print something of a text, of a register, or of several registers.
-use byte_late::LateFile;
+use byte_io::LateFile;
 use clap::ArgMatches;
-use cli_faults::{CommandName, Named, say};
+use cli_faults::{Named, say};
 use cli_open::{
-    Outcome, Rows, STANDARD_INPUT, answered, entries, explains, next_file, open, open_all,
-    open_register, open_to_read, print_of, push_words, wanted, word,
+    Rows, STANDARD_INPUT, answered, entries, explains, next_file, open, open_all, open_register,
+    open_to_read, print_of, push_words, wanted, word,
 };
-use desk_texts::Texts;
+use cli_outcome::{NotDone, Outcome, difference, ended};
 use reg_desk::{
     CliFault, Comparison, Explained, FileDisk, Find, FindIds, Kind, LateAt, Lockable, LogAll,
     LogByWords, LogOf, Offices, Opened, Point, Query, Reading, Recorded, ShelfAt, Source, Writing,
     run_check, run_check_explained, run_diff, run_status,
 };
 use reg_hidden::hidden_in;
+use reg_texts::Texts;
 use std::alloc::{AllocError, Global};
 use std::io::{self, Write};
 use std::rt::Files;
@@ -23,13 +24,25 @@ const NO_WORD: &str = "error: WORD, or the value of an option, is empty: is a va
 const NO_POINT: &str = "error: --at takes a latitude and a longitude, as 52.5,13.4";
 
 /// `check`.
-pub fn check(rt: &HostRuntime, matches: &ArgMatches<'_>) -> Result<Outcome, Explained> {
+pub fn check(rt: &HostRuntime, matches: &ArgMatches<'_>) -> Outcome<Explained> {
+    ended(rt.alloc(), checked(rt, matches))
+}
+
+fn checked(rt: &HostRuntime, matches: &ArgMatches<'_>) -> Result<(), Explained> {
     match matches.get_str("TEXT") {
         None => check_from(rt, matches, STANDARD_INPUT, Reading::new(rt.reader())),
         Some(path) => match open(rt, 1, path) {
             Ok(file) => check_from(rt, matches, path, file),
-            Err(fault) => Ok(Outcome::Fault(fault)),
+            Err(fault) => Err(unexplained(rt.alloc(), fault)),
         },
+    }
+}
+
+// A fault without an explanation of a text.
+fn unexplained(alloc: Global, fault: CliFault) -> Explained {
+    Explained {
+        fault,
+        note: Vec::new(alloc),
     }
 }
 
@@ -39,16 +52,16 @@ fn check_from<S: Source + Drop>(
     matches: &ArgMatches<'_>,
     name: &str,
     source: S,
-) -> Result<Outcome, Explained> {
+) -> Result<(), Explained> {
     let mut text = Recorded::new(rt.alloc(), source);
     let mut sink = Writing::new(io::writer(rt));
     if explains(matches) {
-        return match run_check_explained(rt.alloc(), name, &mut text, &mut sink) {
-            Ok(()) => Ok(Outcome::Done),
-            Err(explained) => Err(explained),
-        };
+        return run_check_explained(rt.alloc(), name, &mut text, &mut sink);
     }
-    Ok(Outcome::of(run_check(rt.alloc(), &mut text, &mut sink)))
+    match run_check(rt.alloc(), &mut text, &mut sink) {
+        Ok(()) => Ok(()),
+        Err(fault) => Err(unexplained(rt.alloc(), fault)),
+    }
 }
 
 /// `log`.
@@ -112,17 +125,19 @@ fn has_empty(matches: &ArgMatches<'_>) -> bool {
 }
 
 /// `find`.
-pub fn find(rt: &HostRuntime, matches: &ArgMatches<'_>) -> Outcome {
+pub fn find(rt: &HostRuntime, matches: &ArgMatches<'_>) -> Outcome<CliFault> {
     if has_empty(matches) {
-        return Outcome::Misuse(NO_WORD);
+        return Err(NotDone::Misuse(NO_WORD));
     }
     let Some(query) = query(matches) else {
-        return Outcome::Misuse(NO_POINT);
+        return Err(NotDone::Misuse(NO_POINT));
     };
     if matches.get_flag("ids") {
-        return Outcome::of(print_of(rt, matches, &FindIds { query: &query }));
+        let answer = print_of(rt, matches, &FindIds { query: &query });
+        return ended(rt.alloc(), answer);
     }
-    Outcome::of(print_of(rt, matches, &Find { query: &query }))
+    let answer = print_of(rt, matches, &Find { query: &query });
+    ended(rt.alloc(), answer)
 }
 
 /// `offices`.
@@ -207,38 +222,31 @@ where
     Ok(shelves)
 }
 
-/// `diff`.
-pub fn diff(rt: &HostRuntime, matches: &ArgMatches<'_>) -> Outcome {
+/// `diff`. It brings what it compared.
+pub fn diff(rt: &HostRuntime, matches: &ArgMatches<'_>) -> Outcome<CliFault, CliFault, Comparison> {
     match merged(rt, matches) {
         Ok(found) => {
-            say_hidden(rt, matches, &found);
-            told(matches, Ok(found.differ))
+            let differs = found.differ;
+            Ok(difference(rt.alloc(), tells(matches), differs, found))
         }
-        Err(fault) => Outcome::Fault(fault),
+        Err(fault) => Err(NotDone::Fault(fault)),
     }
 }
 
-// Says what no row shows of the newer register, and what cannot be undone of it, if sentences are asked for and there is memory for
-// them.
-fn say_hidden(rt: &HostRuntime, matches: &ArgMatches<'_>, found: &Comparison) {
-    if !explains(matches) {
-        return;
-    }
-    let Ok(named) = Named::of(rt, CommandName::Diff, matches) else {
+/// Says what no row shows of the newer register, and what cannot be undone of it, if sentences are asked for and there is memory for
+/// them.
+pub fn say_hidden(rt: &HostRuntime, found: &Comparison, named: &Option<Named<'_>>) {
+    let Some(named) = named else {
         return;
     };
     if let Ok(hidden) = hidden_in(rt.alloc(), &found.before, &found.after) {
-        say(rt, &hidden, &named);
+        say(rt, &hidden, named);
     }
 }
 
-/// Whether something differs is an exit status, if that is asked for.
-pub fn told(matches: &ArgMatches<'_>, answer: Result<bool, CliFault>) -> Outcome {
-    match answer {
-        Ok(differs) if differs && matches.get_flag("exit-code") => Outcome::Differs,
-        Ok(_) => Outcome::Done,
-        Err(fault) => Outcome::Fault(fault),
-    }
+/// Whether the exit status tells that something differs.
+pub fn tells(matches: &ArgMatches<'_>) -> bool {
+    matches.get_flag("exit-code")
 }
 
 fn merged(rt: &HostRuntime, matches: &ArgMatches<'_>) -> Result<Comparison, CliFault> {

@@ -1,1 +1,5 @@
+pub mod Locks
+pub mod NameFaults
+pub mod Numbers
 pub mod Reading
+pub mod Used

@@ -1,4 +1,7 @@
 //! Opens the registers that a command reads, and finds the one that OUT replaces.
+
+ghost use Rattle.std.specs.Prelude.{◌≡◌, Ok, true, bytes_eq};
+
 use clap::ArgMatches;
 use reg_guard::engine::places::{FileId, InputOf};
 use reg_guard::engine::streams::Reading;
@@ -40,7 +43,9 @@ impl<'a> Replaced<'a> {
         alloc: Global,
         path: &str,
         file: &R::File,
-    ) -> Result<bool, CliFault> {
+    ) -> Result<bool, CliFault>
+        ensures { bytes_eq self.now.path.now path.now ≡ true → result ≡ Ok true }
+    {
         if self.path == path {
             return Ok(true);
         }

@@ -2,10 +2,11 @@
 #![tactic(auto)]
 
 mod inputs;
+mod lines;
 mod naming;
 mod offices;
-mod outcome;
 mod reading;
+mod shelves;
 mod stores;
 mod table;
 mod targets;
@@ -13,17 +14,18 @@ mod waiting;
 mod words;
 
 pub use inputs::{Replaced, open_inputs, parts, real_path};
+pub use lines::{MISUSE, complain, failed, print};
 pub use naming::{NamesProblem, names, names_again};
 pub use offices::{OpenOffice, office_at, open_office};
-pub use outcome::{MISUSE, Outcome, complain, failed, print};
+pub use shelves::{lock_new_shelf, open_shelf, open_to_read};
 pub use stores::{Opened, ReadRegister, give_of, next_file, open_register, print_of};
 pub use table::{Rows, answered, is_table};
 pub use targets::{Target, open_target};
 pub use waiting::{patience, reserve};
 pub use words::{
     STANDARD_INPUT, STANDARD_INPUT_PATH, changed_place, entries, entry, explains, files_before,
-    is_twice, listed, lock_new_shelf, office_file, open, open_all, open_shelf, open_text,
-    open_to_read, place, printing_place, push_listed, push_words, replica, wanted, word,
+    is_twice, listed, office_file, open, open_all, open_text, place, printing_place, push_listed,
+    push_words, replica, wanted, word,
 };
 
 // The crates of which the commands above use items, so that they need only this one.

@@ -1,4 +1,8 @@
 //! The names of offices, which a file of CSV gives.
+
+ghost use Rattle.std.specs.Prelude.{◌≡◌};
+ghost use Rattle.cli_open.specs.NameFaults.{is_memory, names_status};
+
 use crate::words::open;
 use clap::ArgMatches;
 use office_names::{Name, NamesFault, read};
@@ -23,17 +27,23 @@ pub enum NamesProblem {
 
 impl NamesProblem {
     /// Whether memory ran out.
-    pub fn is_memory(self) -> bool {
+    pub fn is_memory(self) -> bool
+        ensures { result ≡ is_memory self }
+    {
         match self {
-            NamesProblem::Memory | NamesProblem::Unread(NamesFault::Memory) => true,
+            NamesProblem::Memory => true,
+            NamesProblem::Unread(NamesFault::Memory) => true,
             _ => false,
         }
     }
 
     /// The exit status.
-    pub fn status(self) -> u8 {
+    pub fn status(self) -> u8
+        ensures { result ≡ names_status self }
+    {
         if self.is_memory() {
-            return CliFault::Memory.status();
+            let memory = CliFault::Memory;
+            return memory.status();
         }
         NO_FILE
     }

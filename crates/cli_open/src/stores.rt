@@ -1,9 +1,14 @@
 //! Opens the register that a command names, in its file or (with `--shelf`) on its shelf, and prints something of it, or writes a
 //! file of it.
+
+ghost use Rattle.std.specs.Prelude.{◌≡◌};
+ghost use Rattle.cli_open.specs.Numbers.{after_opened};
+
 use crate::inputs::{Replaced, open_input};
 use crate::reading::{ReadFile, ReadShelf};
+use crate::shelves::open_to_read;
 use crate::table::{Rows, answered};
-use crate::words::{files_before, open_to_read, word};
+use crate::words::{files_before, word};
 use clap::ArgMatches;
 use reg_guard::engine::disks::FileDisk;
 use reg_guard::engine::places::{InputOf, Lockable, Place};
@@ -35,7 +40,9 @@ impl<F> Opened<F> {
 }
 
 /// The number of the first file that is read after the register: a shelf has no number.
-pub fn next_file<F>(register: &Opened<F>) -> usize {
+pub fn next_file<F>(register: &Opened<F>) -> usize
+    ensures { result ≡ after_opened register.now }
+{
     match register {
         Opened::File(_) => 2,
         Opened::Shelf(_) => 1,

@@ -1,8 +1,13 @@
 //! The stores of registers that a command changes, in a file or on a shelf, as an office with an office file or without one.
+
+ghost use Rattle.std.specs.Prelude.{◌≡◌};
+ghost use Rattle.cli_open.specs.Numbers.{after_target};
+
 use crate::inputs::{Replaced, open_input};
 use crate::offices::OpenOffice;
+use crate::shelves::open_shelf;
 use crate::waiting::reserve;
-use crate::words::{changed_place, files_before, open_shelf, word};
+use crate::words::{changed_place, files_before, word};
 use clap::ArgMatches;
 use reg_guard::engine::disks::FileDisk;
 use reg_guard::engine::places::{FilePlace, InputOf};
@@ -38,7 +43,9 @@ pub type ChangedRegister<'a, F, P, Q> = Either<
 
 impl<F, P> Target<F, P> {
     /// The number of the first file that is read after the register: a shelf has no number.
-    pub fn next(&self) -> usize {
+    pub fn next(&self) -> usize
+        ensures { result ≡ after_target self.now }
+    {
         match self {
             Target::File(_, _) => 2,
             Target::Shelf(_) => 1,

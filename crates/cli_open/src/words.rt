@@ -1,16 +1,19 @@
 //! The arguments of a command: replicas, entries, files.
+
+ghost use Rattle.std.specs.Prelude.{◌≡◌, Some, None, IfOk, IfErr};
+ghost use Rattle.uuid.specs.Text.{parsed};
+ghost use Rattle.cli_open.specs.Used.{used_office};
+
 use clap::ArgMatches;
 use clap::parser::ValueSource;
-use reg_guard::engine::disks::FileDisk;
 use reg_guard::engine::files::MAX_FILE;
 use reg_guard::engine::operations::OpId;
-use reg_guard::engine::places::{FileId, FilePlace, Lock, Lockable};
+use reg_guard::engine::places::{FileId, FilePlace, Lockable};
 use reg_guard::engine::streams::{InFault, Reading, read_up_to};
-use reg_guard::engine::{CliFault, InputFault, Refusal, ShelfProblem};
+use reg_guard::engine::{CliFault, InputFault, Refusal};
 use reg_query::Wanted;
 use std::alloc::{AllocError, Global};
-use std::fs::{self, OpenFile, OpenOptions};
-use std::io::{Read, Seek, Write};
+use std::fs;
 use std::os::fd::AsFd;
 use std::rt::Files;
 use uuid::Uuid;
@@ -20,7 +23,7 @@ pub const STANDARD_INPUT: &str = "-";
 
 pub const STANDARD_INPUT_PATH: &str = "/dev/stdin";
 
-const STANDARD_OUTPUT_PATH: &str = "/dev/stdout";
+pub(crate) const STANDARD_OUTPUT_PATH: &str = "/dev/stdout";
 
 /// An argument, or the empty text if it is absent, such as a note.
 pub fn word<'a>(matches: &ArgMatches<'a>, name: &str) -> &'a str {
@@ -35,9 +38,16 @@ pub fn explains(matches: &ArgMatches<'_>) -> bool {
 /// The office file of a command, if it has one. The command line comes before the environment, where an office file comes before a
 /// UUID.
 pub fn office_file<'a>(matches: &ArgMatches<'a>) -> Option<&'a str> {
-    match matches.get_str("office") {
-        Some(file) if matches.value_source("as") != Some(ValueSource::CommandLine) => Some(file),
-        _ => None,
+    used_office(matches.value_source("as"), matches.get_str("office"))
+}
+
+// The office file that is named, unless the words of the command line have a UUID.
+fn used_office(uuid: Option<ValueSource>, file: Option<&str>) -> Option<&str>
+    ensures { result ≡ used_office uuid file.entry }
+{
+    match uuid {
+        Some(ValueSource::CommandLine) => None,
+        _ => file,
     }
 }
 
@@ -61,15 +71,30 @@ pub fn wanted(word: &str) -> Option<Wanted> {
 }
 
 /// The replica of the argument.
-pub fn replica(word: &str) -> Result<Uuid, CliFault> {
+pub fn replica(word: &str) -> Result<Uuid, CliFault>
+    ensures spelled { IfOk result (λ u. Some u ≡ parsed word.now) }
+    ensures fault { IfErr result (λ f. (f ≡ CliFault.Refused Refusal.BadReplica) × (None ≡ parsed word.now)) }
+{
+    match uuid_of(word) {
+        Some(replica) => Ok(replica),
+        None => Err(CliFault::Refused(Refusal::BadReplica)),
+    }
+}
+
+// The UUID that the word spells.
+fn uuid_of(word: &str) -> Option<Uuid>
+    ensures { result ≡ parsed word.now }
+{
     match Uuid::parse_str(word) {
-        Ok(replica) => Ok(replica),
-        Err(_) => Err(CliFault::Refused(Refusal::BadReplica)),
+        Ok(replica) => Some(replica),
+        Err(_) => None,
     }
 }
 
 /// The entry of the argument.
-pub fn entry(word: &str) -> Result<OpId, CliFault> {
+pub fn entry(word: &str) -> Result<OpId, CliFault>
+    ensures { IfErr result (λ f. f ≡ CliFault.Refused Refusal.BadId) }
+{
     match OpId::parse(word.as_bytes()) {
         Some(entry) => Ok(entry),
         None => Err(CliFault::Refused(Refusal::BadId)),
@@ -151,7 +176,9 @@ pub fn entries(alloc: Global, words: &[&[u8]]) -> Result<Vec<OpId>, CliFault> {
 }
 
 /// Opens the file with this number.
-pub fn open<R: Files>(rt: &R, number: usize, path: &str) -> Result<Reading<R::File>, CliFault> {
+pub fn open<R: Files>(rt: &R, number: usize, path: &str) -> Result<Reading<R::File>, CliFault>
+    ensures { IfErr result (λ f. f ≡ CliFault.File number InputFault.NotOpened) }
+{
     match fs::open(rt, path) {
         Ok(file) => Ok(Reading::new(file)),
         Err(_) => Err(CliFault::File {
@@ -179,11 +206,9 @@ pub fn open_all<R: Files>(
 }
 
 /// Opens the file with this number; `-` is standard input.
-pub fn open_text<R: Files>(
-    rt: &R,
-    number: usize,
-    path: &str,
-) -> Result<Reading<R::File>, CliFault> {
+pub fn open_text<R: Files>(rt: &R, number: usize, path: &str) -> Result<Reading<R::File>, CliFault>
+    ensures { IfErr result (λ f. f ≡ CliFault.File number InputFault.NotOpened) }
+{
     if path == STANDARD_INPUT {
         return open(rt, number, STANDARD_INPUT_PATH);
     }
@@ -202,76 +227,6 @@ pub fn is_twice(paths: &[&str]) -> bool {
         }
     }
     false
-}
-
-/// Opens a shelf for reading and writing. No other command may have it open, standard output may not go to it, and the file system
-/// has to have locks.
-pub fn open_shelf<R: Files>(rt: &R, path: &str) -> Result<FileDisk<R::File>, CliFault>
-where
-    R::File: Lockable,
-{
-    let Ok(file) = OpenOptions::new().read(true).write(true).open(rt, path) else {
-        return Err(CliFault::Shelf(ShelfProblem::NotOpened));
-    };
-    if is_standard_output(rt, &file) {
-        return Err(CliFault::Shelf(ShelfProblem::NotOpened));
-    }
-    match file.lock_alone() {
-        Lock::Missing => Err(CliFault::Shelf(ShelfProblem::NotLocked)),
-        lock => disk_if(lock, file),
-    }
-}
-
-/// Opens the file of a shelf that is to be made, and creates it if it is not there. No other command may have it open, and the file
-/// system has to have locks. The lock ends with the file.
-pub fn lock_new_shelf<R: Files>(rt: &R, path: &str) -> Result<R::File, CliFault>
-where
-    R::File: Lockable,
-{
-    let is_there = fs::metadata(rt, path).is_ok();
-    let mut options = OpenOptions::new();
-    let Ok(file) = options.read(true).write(true).create(true).open(rt, path) else {
-        return Err(CliFault::Shelf(ShelfProblem::NotOpened));
-    };
-    match file.lock_alone() {
-        Lock::Taken => Ok(file),
-        Lock::Held => Err(CliFault::Shelf(ShelfProblem::Busy)),
-        Lock::Missing => {
-            if !is_there {
-                let _ = fs::remove_file(rt, path);
-            }
-            Err(CliFault::Shelf(ShelfProblem::NotLocked))
-        }
-    }
-}
-
-fn is_standard_output<R: Files>(rt: &R, file: &R::File) -> bool {
-    match FileId::at(rt, STANDARD_OUTPUT_PATH) {
-        Some(id) => id.is_of(file),
-        None => false,
-    }
-}
-
-/// Opens a shelf for reading. No command may have it open for writing. On a file system without locks it is read without one.
-pub fn open_to_read<R: Files>(rt: &R, path: &str) -> Result<FileDisk<R::File>, CliFault>
-where
-    R::File: Lockable,
-{
-    match OpenOptions::new().read(true).open(rt, path) {
-        Ok(file) => disk_if(file.lock_shared(), file),
-        Err(_) => Err(CliFault::Shelf(ShelfProblem::NotOpened)),
-    }
-}
-
-// The shelf in the file, unless another command has the lock.
-fn disk_if<F: Read + Write + Seek + OpenFile + Drop>(
-    lock: Lock,
-    file: F,
-) -> Result<FileDisk<F>, CliFault> {
-    match lock {
-        Lock::Held => Err(CliFault::Shelf(ShelfProblem::Busy)),
-        Lock::Taken | Lock::Missing => Ok(FileDisk::new(file)),
-    }
 }
 
 /// The place of an output file, which is not open yet.

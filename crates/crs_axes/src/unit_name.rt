@@ -1,7 +1,6 @@
 //! Systems whose name has a unit that no axis has.
 
 ghost use Rattle.std.specs.Prelude.{◌≡◌, IfOk};
-ghost use Rattle.std.specs.List.{list_all};
 ghost use Rattle.std.specs.Option.{option_or};
 ghost use Rattle.crs_part.specs.Slots.{items_of};
 ghost use Rattle.crs_axes.specs.UnitName.{is_no, is_no_unit, none_is, is_misnamed, unit_name, unit_name_said, unit_name_told};

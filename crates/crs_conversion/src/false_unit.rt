@@ -2,7 +2,7 @@
 
 ghost use Rattle.std.specs.Prelude.{◌≡◌, IfOk};
 ghost use Rattle.std.specs.List.{list_any, find};
-ghost use Rattle.std.specs.Option.{option_map, option_or};
+ghost use Rattle.std.specs.Option.{option_map};
 ghost use Rattle.crs_conversion.specs.FalseUnit.{is_false_origin, is_other_unit, are_other_units, is_false_unit, false_unit, false_said, false_told, false_unit_told};
 
 use crs_exact::{either, is_named, is_same_size, joined, parameter_said, unit_of, unit_said};

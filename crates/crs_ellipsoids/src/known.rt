@@ -2,7 +2,6 @@
 
 ghost use Rattle.std.specs.Prelude.{◌≡◌};
 ghost use Rattle.std.specs.List.{find};
-ghost use Rattle.std.specs.Option.{option_map};
 ghost use Rattle.crs_exact.specs.Names.{is_named};
 ghost use Rattle.crs_ellipsoids.specs.Known.{ellipsoid_word, known_as};
 

@@ -1,6 +1,6 @@
 //! Names, compared without letter case, and with underscores as blanks.
 
-ghost use Rattle.std.specs.Prelude.{◌≡◌, drop, length};
+ghost use Rattle.std.specs.Prelude.{◌≡◌, drop};
 ghost use Rattle.crs_exact.specs.Names.{plain, begins, is_named, is_called, has_part};
 
 /// Whether the name is this one.

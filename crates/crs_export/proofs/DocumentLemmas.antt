@@ -8,7 +8,7 @@ use Rattle.json.specs.Word.{after_number}
 use Rattle.json.specs.Print.{IsNumber}
 use Rattle.json.specs.Json.{Json, document, max_depth}
 use Rattle.json.specs.Tree.{depth, items_depth}
-use Rattle.text_quotes.proofs.JsonDocuments.{value_lexemes, items_lexemes, more_items, Lexes, LexesWord, lexes_nothing, lexes_both, lexes_word, lexes_then, lexes_as_word, lexes_as, lexes_from, lexes_null, lexes_text, lexes_number, document_is}
+use Rattle.crs_export.proofs.JsonDocuments.{value_lexemes, items_lexemes, more_items, Lexes, LexesWord, lexes_nothing, lexes_both, lexes_word, lexes_then, lexes_as_word, lexes_as, lexes_from, lexes_null, lexes_text, lexes_number, document_is}
 use Rattle.crs_part.specs.declared.text.Text.{Text}
 use Rattle.crs_part.specs.declared.usages.BoundingBox.{BoundingBox}
 use Rattle.crs_part.specs.declared.usages.Usage.{Usage}

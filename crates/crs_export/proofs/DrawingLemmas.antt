@@ -3,9 +3,9 @@ use Rattle.std.proofs.Common.{◌≡◌, ℕ, ◌==◌, true, false, ◌&&◌, n
 use Rattle.std.proofs.lemmas.Bool.{and_parts}
 use Rattle.std.proofs.lemmas.Bool.Decides.{nat_tests}
 use Rattle.std.specs.List.{flat_map}
-use Rattle.text_quotes.specs.Dot.{escaped, marked, unescaped}
-use Rattle.text_quotes.specs.Graph.{Place, Between, Statement, InText, Part, Byte, Text, End, to, before, in_statement, ended, AreStatements, code}
-use Rattle.text_quotes.proofs.DotLemmas.{Takes, takes_both, Within, within_both, within_plain, within_escape, within_escaped, shown_before, shown_back}
+use Rattle.crs_export.specs.DotQuotes.{escaped, marked, unescaped}
+use Rattle.crs_export.specs.DotStatements.{Place, Between, Statement, InText, Part, Byte, Text, End, to, before, in_statement, ended, AreStatements, code}
+use Rattle.crs_export.proofs.DotLemmas.{Takes, takes_both, Within, within_both, within_plain, within_escape, within_escaped, shown_before, shown_back}
 use Rattle.crs_export.specs.declared.title.Title.{Title}
 use Rattle.crs_export.specs.declared.markup.TheConstants.{GRAPH_START, GRAPH_END, NODE_START, LABEL, BEFORE_CODE_IN_LABEL, BEFORE_NAME_IN_LABEL, BEFORE_COLOR, NODE_END, CAPTION_END, ARROW, EDGE_END, RIVALS_END}
 use Rattle.crs_export.specs.Graphs.{node, caption, edge, rivals}

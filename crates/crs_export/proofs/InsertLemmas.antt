@@ -8,8 +8,8 @@ use Rattle.std.specs.Char.{is_ascii_digit}
 use Rattle.std.specs.List.{flat_map, list_all}
 use Rattle.crs_number.specs.declared.decimals.Decimal.{Decimal}
 use Rattle.crs_number.specs.Canonical.{last_digits, minus_of, plain_text}
-use Rattle.text_quotes.specs.Statements.{Place, Between, Statement, AfterMinus, AfterMark, Part, Byte, Text, End, to, before, in_statement, step, ended, code}
-use Rattle.text_quotes.proofs.SqlLemmas.{Takes, takes_both, takes_quoted}
+use Rattle.crs_export.specs.SqlStatements.{Place, Between, Statement, AfterMinus, AfterMark, Part, Byte, Text, End, to, before, in_statement, step, ended, code}
+use Rattle.crs_export.proofs.SqlLemmas.{Takes, takes_both, takes_quoted}
 use Rattle.wkt_grammar.specs.Canon.{canon}
 use Rattle.crs_part.specs.declared.crs.CrsParts.{CrsParts}
 use Rattle.crs_part.specs.declared.crs.CrsParts.TheVariants as whole

@@ -1,3 +1,7 @@
+pub mod DotLemmas
+pub mod JsonLemmas
+pub mod JsonDocuments
+pub mod SqlLemmas
 mod JoinLemmas
 mod NumeralLemmas
 pub mod DocumentLemmas

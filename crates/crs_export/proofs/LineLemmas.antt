@@ -4,9 +4,9 @@ use Rattle.std.proofs.lemmas.Bool.{and_parts, false≢true}
 use Rattle.std.proofs.lemmas.Bool.Decides.{nat_tests}
 use Rattle.std.proofs.lemmas.List.Folds.{list_all-append}
 use Rattle.std.specs.List.{list_any}
-use Rattle.text_quotes.specs.Sql.{escaped_byte, escaped, quoted}
-use Rattle.text_quotes.specs.Statements.{Between, Comment, to, step, has_no_null, AreStatements, code}
-use Rattle.text_quotes.proofs.SqlLemmas.{Takes, takes_both}
+use Rattle.crs_export.specs.SqlQuotes.{escaped_byte, escaped, quoted}
+use Rattle.crs_export.specs.SqlStatements.{Between, Comment, to, step, has_no_null, AreStatements, code}
+use Rattle.crs_export.proofs.SqlLemmas.{Takes, takes_both}
 use Rattle.crs_part.specs.declared.crs.CrsParts.{CrsParts}
 use Rattle.crs_export.specs.declared.title.Title.{Title}
 use Rattle.crs_export.specs.declared.filed.Filed.{Filed}

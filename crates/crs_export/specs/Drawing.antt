@@ -1,8 +1,8 @@
 -- The statements of a graph in DOT, as Graphviz reads them.
 use Rattle.std.specs.Prelude.{ℕ, ◌++◌, Bool, ◌&&◌, nat_le, List, [], ◌∷◌, codes}
 use Rattle.std.specs.List.{list_all}
-use Rattle.text_quotes.specs.Dot.{marked}
-use Rattle.text_quotes.specs.Graph.{Part, Text, code}
+use Rattle.crs_export.specs.DotQuotes.{marked}
+use Rattle.crs_export.specs.DotStatements.{Part, Text, code}
 use Rattle.crs_export.specs.declared.title.Title.{Title}
 
 abbrev pub Statement : Type 0

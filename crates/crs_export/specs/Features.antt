@@ -4,7 +4,7 @@ use Rattle.std.specs.List.{flat_map}
 use Rattle.crs_part.specs.declared.text.Text.{Text}
 use Rattle.crs_part.specs.declared.usages.BoundingBox.{BoundingBox}
 use Rattle.crs_part.specs.declared.usages.Usage.{Usage}
-use Rattle.text_quotes.specs.Json.{quoted}
+use Rattle.crs_export.specs.JsonQuotes.{quoted}
 use Rattle.crs_export.specs.declared.title.Title.{Title}
 use Rattle.crs_export.specs.declared.markup.TheConstants.{COLLECTION_START, COLLECTION_END, FEATURE_START, BEFORE_ENTRY, BEFORE_AUTHORITY, BEFORE_CODE, BEFORE_NAME, BEFORE_STATUS, BEFORE_SCOPE, BEFORE_AREA, FEATURE_END, NULL}
 use Rattle.crs_export.specs.Boxes.{geometry}

@@ -1,6 +1,6 @@
 -- Nodes and edges in DOT.
 use Rattle.std.specs.Prelude.{ℕ, ◌++◌, List}
-use Rattle.text_quotes.specs.Dot.{escaped}
+use Rattle.crs_export.specs.DotQuotes.{escaped}
 use Rattle.crs_export.specs.declared.title.Title.{Title}
 use Rattle.crs_export.specs.declared.markup.TheConstants.{NODE_START, LABEL, BEFORE_CODE_IN_LABEL, BEFORE_NAME_IN_LABEL, BEFORE_COLOR, NODE_END, CAPTION_END, ARROW, EDGE_END, RIVALS_END}
 

@@ -1,6 +1,6 @@
 -- The statements of SQL that put entries into PROJ's tables, as a database reads them.
 use Rattle.std.specs.Prelude.{◌≡◌, ℕ, ◌++◌, ◌&&◌, List, [], ◌∷◌, codes, Option, Some, None, if◌then◌else◌}
-use Rattle.text_quotes.specs.Statements.{Part, Text, code}
+use Rattle.crs_export.specs.SqlStatements.{Part, Text, code}
 use Rattle.wkt_grammar.specs.Canon.{canon}
 use Rattle.crs_part.specs.declared.crs.CrsParts.{CrsParts}
 use Rattle.crs_part.specs.declared.crs.CrsParts.TheVariants as whole

@@ -1,3 +1,9 @@
+pub mod Scanned
+pub mod JsonQuotes
+pub mod DotQuotes
+pub mod DotStatements
+pub mod SqlQuotes
+pub mod SqlStatements
 pub mod Boxes
 pub mod Features
 pub mod Document

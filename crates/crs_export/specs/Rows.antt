@@ -6,7 +6,7 @@ use Rattle.crs_part.specs.declared.crs.CrsParts.TheVariants as whole
 use Rattle.crs_part.specs.declared.crs.Single.{Single}
 use Rattle.crs_part.specs.declared.crs.Single.TheVariants as single
 use Rattle.crs_part.specs.declared.crs.Compound.{Compound}
-use Rattle.text_quotes.specs.Sql.{quoted}
+use Rattle.crs_export.specs.SqlQuotes.{quoted}
 use Rattle.crs_export.specs.declared.title.Title.{Title}
 use Rattle.crs_export.specs.declared.table.Table.{Table}
 use Rattle.crs_export.specs.declared.table.Table.TheVariants.{Geographic2d, Geographic3d, Geocentric, OtherGeodetic, Projected}

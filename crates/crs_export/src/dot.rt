@@ -1,17 +1,17 @@
 //! The nodes and edges of a graph in DOT.
 
 ghost use Rattle.std.specs.Prelude.{◌≡◌, ◌++◌, OnOk};
-ghost use Rattle.text_quotes.specs.Dot.{escaped};
+ghost use Rattle.crs_export.specs.DotQuotes.{escaped};
 ghost use Rattle.crs_export.specs.declared.markup.TheConstants as markup;
 ghost use Rattle.crs_export.specs.Graphs.{node, caption, edge, rivals};
 
+use crate::dot_quotes::push_dot;
 use crate::markup::{
     ARROW, BEFORE_CODE_IN_LABEL, BEFORE_COLOR, BEFORE_NAME_IN_LABEL, CAPTION_END, EDGE_END, LABEL,
     NODE_END, NODE_START, RIVALS_END,
 };
 use crate::title::Title;
 use std::alloc::AllocError;
-use text_quotes::push_dot;
 
 // Appends constant bytes and a text.
 fn push_field(text: &mut Vec<u8>, before: &[u8], value: &[u8]) -> Result<(), AllocError>

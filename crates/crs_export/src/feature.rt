@@ -2,10 +2,11 @@
 
 ghost use Rattle.std.specs.Prelude.{◌≡◌, ◌++◌, ℕ, map, IfOk, OnOk};
 ghost use Rattle.std.specs.Global.{Vec};
-ghost use Rattle.text_quotes.specs.Json.{quoted};
+ghost use Rattle.crs_export.specs.JsonQuotes.{quoted};
 ghost use Rattle.crs_export.specs.Features.{of_entry, area_of, of_usage, feature, with_box, features};
 
 use crate::geometry::push_geometry;
+use crate::json_quotes::push_json;
 use crate::markup::{
     BEFORE_AREA, BEFORE_AUTHORITY, BEFORE_CODE, BEFORE_ENTRY, BEFORE_NAME, BEFORE_SCOPE,
     BEFORE_STATUS, FEATURE_END, FEATURE_START, NULL,
@@ -13,7 +14,6 @@ use crate::markup::{
 use crate::title::Title;
 use crs_part::{BoundingBox, Text, Usage};
 use std::alloc::{AllocError, Global};
-use text_quotes::push_json;
 
 // Appends a name with its text.
 fn push_field(text: &mut Vec<u8>, name: &[u8], value: &[u8]) -> Result<(), AllocError>

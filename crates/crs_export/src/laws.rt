@@ -2,9 +2,12 @@
 
 ghost use Rattle.std.specs.Prelude.{◌≡◌, ℕ, List, [], ◌∷◌, ◌++◌, Some, true};
 ghost use Rattle.std.specs.List.{flat_map};
-ghost use Rattle.json.specs.Json.{document};
-ghost use Rattle.text_quotes.specs.Statements as sql_text;
-ghost use Rattle.text_quotes.specs.Graph as graph_text;
+ghost use Rattle.json.specs.Json.{document, string};
+ghost use Rattle.crs_export.specs.JsonQuotes as json_quotes;
+ghost use Rattle.crs_export.specs.DotQuotes as dot_quotes;
+ghost use Rattle.crs_export.specs.SqlQuotes as sql_quotes;
+ghost use Rattle.crs_export.specs.SqlStatements as sql_text;
+ghost use Rattle.crs_export.specs.DotStatements as graph_text;
 ghost use Rattle.crs_part.specs.declared.crs.CrsParts.{CrsParts};
 ghost use Rattle.crs_export.specs.declared.filed.Filed.{Filed};
 ghost use Rattle.crs_export.specs.declared.title.Title.{Title};
@@ -16,6 +19,21 @@ ghost use Rattle.crs_export.specs.Sql.{sql};
 ghost use Rattle.crs_export.specs.Inserts.{Statement, row_statements, AreInserts, transaction};
 ghost use Rattle.crs_export.specs.Graphs.{node, caption, edge, rivals};
 ghost use Rattle.crs_export.specs.Drawing.{is_color, node_statement, caption_statement, edge_statement, rivals_statement, graph_statements};
+
+/// A quoted text is a string of JSON (RFC 8259) that stands for the text.
+pub fn json_texts_are_read()
+    ensures { (text : List ℕ) → document (json_quotes.quoted text) ≡ Some (string text) }
+{}
+
+/// A quoted text in a statement of DOT is one text, and is shown as it was, with a mark for each U+0000.
+pub fn dot_texts_are_read()
+    ensures { (text : List ℕ) → graph_text.parts_from graph_text.Statement (dot_quotes.quoted text) ≡ graph_text.Text (dot_quotes.marked text) ∷ [] }
+{}
+
+/// A quoted text in a statement of SQL, before a comma, is the text and the comma.
+pub fn sql_texts_are_read()
+    ensures { (text : List ℕ) → sql_text.parts_from sql_text.Statement (sql_quotes.quoted text ++ 44 ∷ []) ≡ sql_text.Text text ∷ sql_text.Byte 44 ∷ [] }
+{}
 
 /// A collection of features is a document of JSON (RFC 8259): a feature for each usage with a bounding box, in order, with the names
 /// of GeoJSON and the texts of the entries.

@@ -6,9 +6,9 @@ ghost use Rattle.crs_export.specs.Rows.{field, owner_end, start_of, type_of};
 use crate::markup::{
     COMMA, GEOCENTRIC, GEODETIC, GEOGRAPHIC_2D, GEOGRAPHIC_3D, OF_OWNER, OTHER, PROJECTED,
 };
+use crate::sql_quotes::push_sql;
 use crate::table::Table;
 use std::alloc::AllocError;
-use text_quotes::push_sql;
 
 /// The start of a statement, before the authority.
 pub fn start_of(table: Table) -> &'static [u8]

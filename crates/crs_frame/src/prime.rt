@@ -1,7 +1,6 @@
 //! Prime meridians with another longitude than their name says.
 
-ghost use Rattle.std.specs.Prelude.{◌≡◌, ◌<◌, ◌≤◌, ◌+◌, ◌*◌, ◌-◌, ◌^◌, not, ◌&&◌, ◌||◌, IfOk};
-ghost use Rattle.std.specs.Int.{is_negative};
+ghost use Rattle.std.specs.Prelude.{◌≡◌, ◌<◌, ◌+◌, ◌*◌, ◌-◌, ◌^◌, ◌&&◌, ◌||◌, IfOk};
 ghost use Rattle.crs_frame.specs.Meridians.{longitude, is_west};
 ghost use Rattle.crs_frame.specs.Prime.{is_other_side, is_off_degrees, is_off, is_known_off, is_prime_odd, is_found_odd, prime, source_said, unit_named, prime_said, found_said, prime_told};
 

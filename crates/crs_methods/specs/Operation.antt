@@ -3,7 +3,6 @@ use Rattle.std.specs.Prelude.{ℕ, Bool, false, not, ◌||◌, List, [], ◌∷�
 use Rattle.std.specs.List.{find, list_any, concat}
 use Rattle.std.specs.Option.{is_some}
 use Rattle.crs_number.specs.declared.decimals.Decimal.{Decimal}
-use Rattle.crs_part.specs.declared.identifiers.Ident.{Ident}
 use Rattle.crs_part.specs.declared.identifiers.Named.{Named}
 use Rattle.crs_part.specs.declared.conversions.Conversion.{Conversion}
 use Rattle.crs_part.specs.declared.conversions.Parameter.{Parameter}

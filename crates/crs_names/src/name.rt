@@ -3,7 +3,7 @@
 ghost use Rattle.std.specs.Prelude.{◌≡◌, true, IfOk};
 ghost use Rattle.std.specs.List.{find};
 ghost use Rattle.crs_names.specs.Names.{single_names, compound_names};
-ghost use Rattle.crs_names.specs.Name.{is_blank, is_control, odd_after, is_text_odd, is_name_odd, name, whole_name, name_said, name_told};
+ghost use Rattle.crs_names.specs.Name.{is_blank, is_control, is_text_odd, is_name_odd, name, whole_name, name_said, name_told};
 
 use crate::name_walk::HasNames;
 use crs_exact::joined;

@@ -1,5 +1,5 @@
 -- The bytes of a text that has the form of a numeral.
-use Rattle.std.proofs.Common.{◌≡◌, ℕ, ◌+◌, ◌<◌, Bool, true, false, List, [], ◌∷◌, ◌++◌, length, ℤ, refl, sym, ap, subst, arith, inl, inr}
+use Rattle.std.proofs.Common.{◌≡◌, ℕ, ◌+◌, ◌<◌, Bool, true, false, List, [], ◌∷◌, ◌++◌, length, refl, sym, ap, subst, arith, inl, inr}
 use Rattle.std.specs.Prelude.{◌⊎◌}
 use Rattle.std.specs.Char.{digit_value}
 use Rattle.std.specs.List.{AllPass}
@@ -7,10 +7,7 @@ use Rattle.std.specs.Str.Parse.{AllDigits}
 use Rattle.std.proofs.lemmas.Bool.Decides.{nat_tests}
 use Rattle.std.proofs.lemmas.List.Elements.{All-nil, All-cons, All-append}
 use Rattle.crs_number.specs.Bytes.{begins_numeral, is_numeral_byte, HasNumeralBytes}
-use Rattle.crs_number.specs.declared.decimals.Decimal.{Decimal}
-use Rattle.crs_number.specs.Canonical.{canonical}
-use Rattle.crs_number.specs.Numeral.{IsSign, IsFraction, IsPower, HasForm, Spells}
-use Rattle.crs_number.proofs.Spelled.{canonical_spells}
+use Rattle.crs_number.specs.Numeral.{IsSign, IsFraction, IsPower, HasForm}
 
 abbrev InNumeral : ℕ → Type 0
 InNumeral b = is_numeral_byte b ≡ true
@@ -88,9 +85,3 @@ form_bytes text h =
     let all = All-append InNumeral f.sign (p.whole ++ rest) (sign_in f.sign p.negative f.is_sign) behind in
     subst (λ l. HasNumeralBytes l) (sym f.is_text)
     (has_bytes (f.sign ++ (p.whole ++ rest)) (begun_by_sign f.sign (p.whole ++ rest) p.negative f.is_sign (begun_by_digits p.whole f.point f.power p.fraction f.is_whole f.is_point f.has_digits)) all)
-
-pub spells_bytes : (text : List ℕ) (c e : ℤ) → Spells text c e → HasNumeralBytes text
-spells_bytes text c e s = form_bytes text (s.parts, s.form)
-
-pub canonical_bytes : (d : Decimal) → HasNumeralBytes (canonical d.coefficient d.exponent)
-canonical_bytes d = spells_bytes (canonical d.coefficient d.exponent) d.coefficient d.exponent (canonical_spells d)

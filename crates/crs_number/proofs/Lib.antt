@@ -7,7 +7,6 @@ pub mod Texts
 pub mod Spelled
 pub mod Same
 pub mod Small
-pub mod Rooms
 pub mod Once
 pub mod Forms
 pub mod CountTexts

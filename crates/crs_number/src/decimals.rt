@@ -1,7 +1,6 @@
 //! Decimals: read, written, compared.
 
-ghost use Rattle.std.specs.Prelude.{◌≡◌, ◌≢◌, ℕ, ◌+◌, ◌++◌, ◌*◌, ◌%◌, ◌^◌, ◌<◌, ◌≤◌, ◌↔◌, ℤ, pos, negsuc, ◌+ℤ◌, ◌-ℤ◌, ◌≤ℤ◌, unsigned_abs, IfSome, IsSomeAnd, IfOk, OnOk, OnErr, IsOkAnd, IsErrOf, MatchOption, length, vec_len, vec_capacity};
-ghost use Rattle.std.specs.Str.Parse.{AllDigits, digits_value};
+ghost use Rattle.std.specs.Prelude.{◌≡◌, ℕ, ◌+◌, ◌++◌, ◌*◌, ◌%◌, ◌^◌, ◌<◌, ◌≤◌, ◌↔◌, ℤ, pos, negsuc, ◌+ℤ◌, ◌-ℤ◌, ◌≤ℤ◌, unsigned_abs, IfSome, IsSomeAnd, IfOk, OnOk, OnErr, IsErrOf, length, vec_len, vec_capacity};
 ghost use Rattle.crs_number.specs.Numeral.{signed, IsNormalForm, IsInRange, HasForm, HasDigits, HasValue, Spells};
 ghost use Rattle.crs_number.specs.Parts.{parts_of};
 ghost use Rattle.crs_number.specs.Value.{IsWhole};

@@ -1,6 +1,6 @@
 //! The canonical text of a decimal.
 
-ghost use Rattle.std.specs.Prelude.{◌≡◌, ◌+◌, ◌-◌, ◌^◌, ◌<◌, ◌≤◌, ◌++◌, ◌∷◌, ℕ, ℤ, length, take, drop, vec_len, vec_capacity, OnOk, OnErr, decimal, replicate};
+ghost use Rattle.std.specs.Prelude.{◌≡◌, ◌+◌, ◌-◌, ◌^◌, ◌<◌, ◌≤◌, ◌++◌, ◌∷◌, length, take, drop, vec_len, vec_capacity, OnOk, OnErr, decimal, replicate};
 ghost use Rattle.crs_number.specs.Canonical.{Extends, plain_text};
 
 use itoa::Buffer;

@@ -5,7 +5,7 @@ ghost use Rattle.std.specs.List.{flat_map};
 ghost use Rattle.std.specs.Option.{option_map_or};
 ghost use Rattle.crs_part.specs.Slots.{items_of};
 ghost use Rattle.crs_said.specs.Claims.{Said, claim_seen};
-ghost use Rattle.crs_said.specs.Parts.{id_claims, unit_definition_claims, length_unit_claims, angle_unit_claims, unit_claims, ellipsoid_claims, prime_meridian_claims, geodetic_datum_claims, geodetic_ensemble_claims, geodetic_frame_claims, vertical_datum_claims, vertical_ensemble_claims, vertical_frame_claims, method_claims, parameter_claims, conversion_claims};
+ghost use Rattle.crs_said.specs.Parts.{unit_definition_claims, length_unit_claims, angle_unit_claims, unit_claims, ellipsoid_claims, prime_meridian_claims, geodetic_datum_claims, geodetic_ensemble_claims, geodetic_frame_claims, vertical_datum_claims, vertical_ensemble_claims, vertical_frame_claims, parameter_claims, conversion_claims};
 
 use crate::claim::Claim;
 use crate::identified::{push_named, push_part};

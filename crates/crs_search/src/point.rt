@@ -5,7 +5,7 @@ ghost use Rattle.std.specs.List.{Any, prefix_len};
 ghost use Rattle.crs_number.specs.Numeral.{signed};
 ghost use Rattle.crs_number.specs.Value.{units};
 ghost use Rattle.crs_search.specs.Usages.{IsAtMost, IsBelow, IsBetween, IsWithin, IsOnMeridians, IsInBox, HasBoxAround, HasPoint};
-ghost use Rattle.crs_search.specs.Points.{is_no_comma, before_comma, from_comma, without_blank, behind_comma, IsOnGlobe, Names};
+ghost use Rattle.crs_search.specs.Points.{is_no_comma, before_comma, without_blank, behind_comma, IsOnGlobe, Names};
 
 use crate::usages::usages_of;
 use crs_number::Decimal;

@@ -1,9 +1,10 @@
 -- The first condition that fails, over each reference system in turn.
-use Rattle.std.proofs.Common.{◌≡◌, Bool, cond, true, false, List, [], ◌∷◌, ◌++◌, Option, None, Some, refl, ap, sym, ◌∙◌}
+use Rattle.std.proofs.Common.{◌≡◌, Bool, cond, true, false, List, [], ◌∷◌, ◌++◌, Option, None, Some, refl, ap, ◌∙◌}
 use Rattle.std.specs.Prelude.{not, map}
 use Rattle.std.specs.List.{find}
 use Rattle.std.specs.Option.{option_map, option_or}
 use Rattle.std.proofs.lemmas.List.Folds.{find-append}
+use Rattle.std.proofs.lemmas.Bool.{not-false}
 use Rattle.crs_part.specs.declared.crs.Single.{Single}
 use Rattle.crs_part.specs.declared.crs.Compound.{Compound}
 use Rattle.crs_part.specs.declared.crs.CrsParts.{CrsParts}
@@ -43,10 +44,6 @@ first_of_compound crs =
     ∙ (ap (λ found. option_or found (find fails (each_of Whole))) (find-append fails (each_of First) (each_of Second))
     ∙ (λ i. option_or (option_or (first_in whole First i) (first_in whole Second i)) (first_in whole Whole i)))
 
-passed : (b : Bool) → not b ≡ false → b ≡ true
-passed true e = refl
-passed false e = sym e
-
 abbrev Each : {X : Type 0} → (X → Type 0) → List X → Type 0
 Each P [] = Unit {0}
 Each P (x ∷ xs) = P x × Each P xs
@@ -84,7 +81,7 @@ every P h Whole = each P Whole (all_split P (each_of First ++ each_of Second) (e
 
 pub conditions_hold : (crs : CrsParts) → first_broken crs ≡ None → HasConditions crs
 unfolding first_broken
-conditions_hold crs e = λ who which. passed (holds_in crs who which) (every (λ check. not (holds_in crs check.whose check.condition) ≡ false) (none_found (λ check. not (holds_in crs check.whose check.condition)) checks e) who which)
+conditions_hold crs e = λ who which. not-false (holds_in crs who which) (every (λ check. not (holds_in crs check.whose check.condition) ≡ false) (none_found (λ check. not (holds_in crs check.whose check.condition)) checks e) who which)
 
 pub none_broken : (crs : CrsParts) → HasConditions crs → first_broken crs ≡ None
 unfolding first_broken

@@ -1,7 +1,7 @@
 //! Parameters that are not those of a zone.
 
-ghost use Rattle.std.specs.Prelude.{◌≡◌, ◌≤◌, ◌<◌, ◌^◌, ◌*◌, ◌+◌, ◌-◌, ◌||◌, not};
-ghost use Rattle.std.specs.Option.{option_map, option_or};
+ghost use Rattle.std.specs.Prelude.{◌≡◌, ◌≤◌, ◌<◌, ◌^◌, ◌*◌, ◌+◌, ◌-◌, ◌||◌};
+ghost use Rattle.std.specs.Option.{option_map};
 ghost use Rattle.crs_part.specs.declared.units.UnitDefinition.{UnitDefinition};
 ghost use Rattle.crs_zones.specs.Zone.{base_unit, angle_unit, is_on_side, is_at, is_packed, is_off_meridian, is_length, is_easting, is_northing, is_utm, is_longitude, is_latitude, is_scale, is_utm_scale, is_utm_off, is_longitude_off, is_off_in, is_parameter_off};
 

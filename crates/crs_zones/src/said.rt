@@ -1,7 +1,7 @@
 //! The zone that a name says.
 
-ghost use Rattle.std.specs.Prelude.{◌≡◌, ◌+◌, ◌*◌, ◌-◌, drop, length};
-ghost use Rattle.std.specs.Option.{option_map, option_or};
+ghost use Rattle.std.specs.Prelude.{◌≡◌, ◌+◌, ◌*◌, ◌-◌};
+ghost use Rattle.std.specs.Option.{option_map};
 ghost use Rattle.crs_zones.specs.Said.{behind, is_digit, is_letter, goes_on, sideless, utm_sided, ended, finished, numbered, numbered_behind, at_start, zone_said};
 
 use crate::grid::{Grid, Zone, zone_of};

@@ -1,10 +1,11 @@
 -- No character of a cell is hidden.
-use Rattle.std.proofs.Common.{◌≡◌, ℕ, zero, suc, ◌-◌, Bool, true, false, not, ◌&&◌, ◌||◌, nat_lt, List, [], ◌∷◌, ◌++◌, length, take, IsUtf8, refl, ap, ◌∙◌, subst, arith}
+use Rattle.std.proofs.Common.{◌≡◌, ℕ, zero, suc, ◌-◌, Bool, true, false, not, ◌||◌, nat_lt, List, [], ◌∷◌, ◌++◌, length, take, IsUtf8, refl, ap, ◌∙◌, subst, arith}
 use Rattle.std.specs.List.{list_all}
 use Rattle.std.specs.Str.{chars}
 use Rattle.std.specs.Str.Lossy.{utf8_lossy}
 use Rattle.std.proofs.lemmas.List.Folds.{list_all-append}
 use Rattle.std.proofs.lemmas.Str.{IsUtf8-nil, IsUtf8-append, IsUtf8-encode, scalars-chars, chars-append, chars-nil, encode_ascii}
+use Rattle.std.proofs.lemmas.Bool.{and_parts, and_from}
 use lib.Utf8.{scalar, scalars, encode}
 use Rattle.text_hidden.specs.Set.{is_hidden}
 use Rattle.text_hidden.specs.Marks.{Marks, hides_nothing, shown_all}
@@ -18,21 +19,13 @@ record Clear (text : List ℕ) : Type 0 where
   utf8 : IsUtf8 text
   none : hides_nothing text ≡ true
 
-both : (a b : Bool) → a ≡ true → b ≡ true → (a && b) ≡ true
-both true b p q = q
-both false b p q = cc
-
-parts : (a b : Bool) → (a && b) ≡ true → (a ≡ true) × (b ≡ true)
-parts true b e = (refl, e)
-parts false b e = cc
-
 -- a text after another one
 next : (xs ys : List ℕ) → Clear xs → Clear ys → Clear (xs ++ ys)
 next xs ys x y = record {
   utf8 = IsUtf8-append xs ys x.utf8 y.utf8;
   none = ap (list_all (λ c. not (is_hidden c))) (chars-append xs ys x.utf8)
       ∙ list_all-append (λ c. not (is_hidden c)) (chars xs) (chars ys)
-      ∙ both (hides_nothing xs) (hides_nothing ys) x.none y.none;
+      ∙ and_from (hides_nothing xs) (hides_nothing ys) x.none y.none;
 }
 
 empty : Clear []
@@ -71,7 +64,7 @@ cut false = empty
 scalars_take : (n : ℕ) (cs : List ℕ) → scalars cs ≡ true → scalars (take n cs) ≡ true
 scalars_take zero cs e = refl
 scalars_take (suc n) [] e = refl
-scalars_take (suc n) (c ∷ cs) e = let each = parts (scalar c) (scalars cs) e in both (scalar c) (scalars (take n cs)) each.0 (scalars_take n cs each.1)
+scalars_take (suc n) (c ∷ cs) e = let each = and_parts (scalar c) (scalars cs) e in and_from (scalar c) (scalars (take n cs)) each.0 (scalars_take n cs each.1)
 
 either : (h : Bool) → (h || not h) ≡ true
 either true = refl

@@ -1,7 +1,7 @@
 //! The table of a command's rows, and the command's answer.
 
-ghost use Rattle.std.specs.Prelude.{◌≡◌, ℕ, List, IfOk, IfErr};
-ghost use Rattle.csv_table.specs.Answer.{IsTableOf, IsTold, IsUntold};
+ghost use Rattle.std.specs.Prelude.{◌≡◌, IfOk, IfErr};
+ghost use Rattle.csv_table.specs.Answer.{IsTold, IsUntold};
 
 use crate::lines::table;
 use byte_io::{Sink, write_all};

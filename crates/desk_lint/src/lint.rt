@@ -1,6 +1,6 @@
 //! The steps of `lint`.
 
-ghost use Rattle.std.specs.Prelude.{◌≡◌, IfOk, IfErr};
+ghost use Rattle.std.specs.Prelude.{IfOk, IfErr};
 ghost use Rattle.desk_lint.specs.Lint.{IsLintOf, IsLinted, IsUnlinted, AreLinted, AreUnlinted};
 
 use crate::looked::read_looked;

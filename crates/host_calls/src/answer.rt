@@ -1,6 +1,6 @@
 //! The answer of a call.
 
-use byte_system::{Failed, FolderFault, MakeFault, System};
+use byte_system::{Failed, FolderFault, MakeFault, Mode, ReadFault, RenameFault, System, There};
 use std::fmt;
 
 /// The answer of a call.
@@ -10,6 +10,7 @@ pub enum Answer {
     Is(bool),
     Done,
     Exists,
+    There(There),
     Failed,
     /// The line names no call.
     NoCall,
@@ -23,6 +24,10 @@ impl fmt::Display for Answer {
             Answer::Is(false) => f.write_str("no"),
             Answer::Done => f.write_str("done"),
             Answer::Exists => f.write_str("exists"),
+            Answer::There(There::Nothing) => f.write_str("nothing"),
+            Answer::There(There::Sole) => f.write_str("sole"),
+            Answer::There(There::Shared) => f.write_str("shared"),
+            Answer::There(There::Other) => f.write_str("other"),
             Answer::Failed => f.write_str("failed"),
             Answer::NoCall => f.write_str("no call"),
         }
@@ -37,14 +42,16 @@ pub fn answer_to<S: System>(system: &mut S, line: &str) -> Answer {
     let second = words.next().unwrap_or("");
     match call {
         "make" => made(system, first),
+        "look" => there(system.look(first.as_bytes())),
+        "alike" => is(system.make_alike(file(first), second.as_bytes())),
         "open" => number(system.open(first.as_bytes())),
         "lock" => is(system.lock(file(first))),
         "named" => is(system.is_named(first.as_bytes(), file(second))),
         "write" => Answer::Number(system.write(file(first), second.as_bytes())),
         "empty" => done(system.truncate(file(first))),
         "sync" => done(system.sync(file(first))),
-        "has" => is(system.has(first.as_bytes(), second.as_bytes())),
-        "rename" => done(system.rename(first.as_bytes(), second.as_bytes())),
+        "has" => had(system.has(first.as_bytes(), second.as_bytes())),
+        "rename" => renamed(system.rename(first.as_bytes(), second.as_bytes())),
         "unlink" => done(system.unlink(first.as_bytes())),
         "folder" => synced(system.sync_folder(first.as_bytes())),
         _ => Answer::NoCall,
@@ -57,10 +64,32 @@ fn file(word: &str) -> usize {
 }
 
 fn made<S: System>(system: &mut S, name: &str) -> Answer {
-    match system.make(name.as_bytes()) {
+    match system.make(name.as_bytes(), Mode::Usual) {
         Ok(file) => Answer::Number(file),
         Err(MakeFault::Exists) => Answer::Exists,
+        Err(MakeFault::Forbidden) => Answer::Failed,
         Err(MakeFault::NotMade) => Answer::Failed,
+    }
+}
+
+fn there(told: Result<There, Failed>) -> Answer {
+    match told {
+        Ok(there) => Answer::There(there),
+        Err(_) => Answer::Failed,
+    }
+}
+
+fn had(told: Result<bool, ReadFault>) -> Answer {
+    match told {
+        Ok(is) => Answer::Is(is),
+        Err(_) => Answer::Failed,
+    }
+}
+
+fn renamed(told: Result<(), RenameFault>) -> Answer {
+    match told {
+        Ok(()) => Answer::Done,
+        Err(_) => Answer::Failed,
     }
 }
 

@@ -1,4 +1,11 @@
+pub mod EscapedLemmas
+pub mod MarkLemmas
+mod HiddenLemmas
+mod CharacterLemmas
+pub mod PlaceLemmas
+pub mod JoinLemmas
+pub mod ShortLemmas
 pub mod PageLemmas
 pub mod WordLemmas
-mod MarkLemmas
+mod UnmarkedLemmas
 pub mod TextLemmas

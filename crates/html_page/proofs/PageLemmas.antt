@@ -2,10 +2,10 @@
 use Rattle.std.proofs.Common.{◌≡◌, ◌==◌, ℕ, Bool, true, false, if◌then◌else◌, List, [], ◌∷◌, ◌++◌, length, map, Some, refl, sym, ap, ◌∙◌}
 use Rattle.std.specs.List.{flat_map}
 use Rattle.std.proofs.lemmas.List.{length-map}
-use Rattle.html_text.specs.Pieces.{Piece, Markup, html}
-use Rattle.html_text.specs.Places.{Content, tags, past_all}
-use Rattle.html_text.proofs.PlaceLemmas.{same_tags}
-use Rattle.html_text.proofs.JoinLemmas.{Closed, is_closed, closed-append, closed-flat_map, Alike, is_alike, alike-append, alike-flat_map}
+use Rattle.html_page.specs.Pieces.{Piece, Markup, html}
+use Rattle.html_page.specs.Places.{Content, tags, past_all}
+use Rattle.html_page.proofs.PlaceLemmas.{same_tags}
+use Rattle.html_page.proofs.JoinLemmas.{Closed, is_closed, closed-append, closed-flat_map, Alike, is_alike, alike-append, alike-flat_map}
 use Rattle.html_page.specs.declared.standing.Standing.{Standing}
 use Rattle.html_page.specs.declared.standing.Standing.TheVariants.{Valid, Superseded, Retired}
 use Rattle.html_page.specs.Shown.{Link, Entered, Awaited, Event, SupersededBy, RetiredBy, Box, Entry, Word, Side, Pair, Conflict, Shown}

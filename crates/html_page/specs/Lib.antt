@@ -1,3 +1,8 @@
+pub mod Escaped
+pub mod Marks
+pub mod Short
+pub mod Pieces
+pub mod Places
 pub mod Shown
 pub mod Shape
 pub mod Templates

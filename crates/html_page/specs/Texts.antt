@@ -1,7 +1,7 @@
 -- The texts of a page in its order: those that keep their lines.
 use Rattle.std.specs.Prelude.{ℕ, List, [], ◌∷◌, ◌++◌, map}
 use Rattle.std.specs.List.{flat_map}
-use Rattle.html_text.specs.Pieces.{Piece, Markup, Text, Lines, Short, Attribute, Numeral}
+use Rattle.html_page.specs.Pieces.{Piece, Markup, Text, Lines, Short, Attribute, Numeral}
 use Rattle.html_page.specs.Shown.{Entry, Word, Side, Pair, Conflict, Shown}
 
 abbrev pub text_in : Piece → List (List ℕ)

@@ -1,15 +1,15 @@
 //! The conflicts: the texts of each key, side by side.
 
 ghost use Rattle.std.specs.Prelude.{OnOk};
-ghost use Rattle.html_text.specs.Pieces.{Appends};
+ghost use Rattle.html_page.specs.Pieces.{Appends};
 ghost use Rattle.html_page.specs.Templates.{conflict_start, side_start, word};
 
 use crate::markup::{
     AFTER_CONFLICT_KEY, AFTER_WORD, BEFORE_SIDE_ID, BEFORE_SIDE_NOTE, BEFORE_SIDE_WORDS, COLON,
     CONFLICT, SIDE, WORD,
 };
-use html_text::Piece::{Attribute, Lines, Markup, Text};
-use html_text::push_pieces;
+use crate::pieces::Piece::{Attribute, Lines, Markup, Text};
+use crate::pieces::push_pieces;
 use std::alloc::AllocError;
 
 /// Appends the heading of a key in conflict.

@@ -1,7 +1,7 @@
 //! The rows of entries.
 
 ghost use Rattle.std.specs.Prelude.{OnOk};
-ghost use Rattle.html_text.specs.Pieces.{Appends};
+ghost use Rattle.html_page.specs.Pieces.{Appends};
 ghost use Rattle.html_page.specs.Templates.{entry_start, entry_text, question, entry_id, operation_id, operation_note, area, kind_and_standing};
 
 use crate::markup::{
@@ -10,9 +10,9 @@ use crate::markup::{
     BEFORE_NAME, BEFORE_NOTE, BEFORE_OPERATION, BEFORE_STANDING, BEFORE_TEXT, COLON, ENTRY,
     QUESTION, RETIRED_CELL, SUPERSEDED_CELL, VALID_CELL,
 };
+use crate::pieces::Piece::{Attribute, Lines, Markup, Text};
+use crate::pieces::push_pieces;
 use crate::standing::Standing;
-use html_text::Piece::{Attribute, Lines, Markup, Text};
-use html_text::push_pieces;
 use std::alloc::AllocError;
 
 /// Appends the start of an entry's row: its key and its name.

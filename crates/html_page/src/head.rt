@@ -1,17 +1,17 @@
 //! The beginning and the end of the page.
 
 ghost use Rattle.std.specs.Prelude.{◌∷◌, [], OnOk};
-ghost use Rattle.html_text.specs.Pieces.{Markup as Constant, Appends};
+ghost use Rattle.html_page.specs.Pieces.{Markup as Constant, Appends};
 ghost use Rattle.html_page.specs.Templates.{number, head, figures, end};
 
 use crate::markup::{
     AWAITED, BEFORE_FIGURES, BEFORE_HEADING, BEFORE_STYLE, BEFORE_TITLE, COUNT, ENTRIES, GAPS,
     IN_CONFLICT, MAIN_END, OPERATIONS, PAGE_END, RETIRED, SUPERSEDED, VALID,
 };
+use crate::pieces::Piece::{Markup, Text};
+use crate::pieces::push_pieces;
 use crate::script::SCRIPT;
 use crate::style::STYLE;
-use html_text::Piece::{Markup, Text};
-use html_text::push_pieces;
 use std::alloc::{AllocError, Global};
 
 /// The counts of a register.

@@ -1,9 +1,14 @@
-//! The laws of the page. The functions do nothing: their contracts are the laws.
+//! The laws of escaping, of pieces and of the page. The functions do nothing: their contracts are the laws.
 
-ghost use Rattle.std.specs.Prelude.{◌≡◌, ℕ, List, Some, true};
+ghost use Rattle.std.specs.Prelude.{◌≡◌, ℕ, List, map, Some, true};
+ghost use Rattle.std.specs.Str.{IsUtf8};
 ghost use Rattle.std.specs.List.{flat_map};
-ghost use Rattle.html_text.specs.Pieces.{html};
-ghost use Rattle.html_text.specs.Places.{Content, tags, past_all, begins_no_tag};
+ghost use Rattle.text_hidden.specs.Marks.{hides_only};
+ghost use Rattle.html_page.specs.declared.marks.Feeds.{Feeds};
+ghost use Rattle.html_page.specs.Escaped.{escaped, unescaped, is_inert};
+ghost use Rattle.html_page.specs.Marks.{is_kept, marked, has_none};
+ghost use Rattle.html_page.specs.Pieces.{Piece, html, blank};
+ghost use Rattle.html_page.specs.Places.{Context, Content, tags, past_all, begins_no_tag};
 ghost use Rattle.html_page.specs.declared.script.TheConstants.{SCRIPT};
 ghost use Rattle.html_page.specs.declared.style.TheConstants.{STYLE};
 ghost use Rattle.html_page.specs.Shown.{Word, Shown};
@@ -11,6 +16,30 @@ ghost use Rattle.html_page.specs.Shape.{shape};
 ghost use Rattle.html_page.specs.Templates.{page};
 ghost use Rattle.html_page.specs.Texts.{texts, shown_texts};
 ghost use Rattle.html_page.specs.Words.{compared, unmarked};
+
+/// An escaped text has no `<`, `>` or quotation mark, and `&` only in references; a browser reads it as the text.
+pub fn texts_stay_texts()
+    ensures inert { (text : List ℕ) → is_inert (escaped text) ≡ true }
+    ensures read { (text : List ℕ) → unescaped (escaped text) ≡ text }
+{}
+
+/// A text without hidden characters has no marks.
+pub fn nothing_else_is_marked()
+    ensures { (feeds : Feeds) (text : List ℕ) → has_none feeds text ≡ true → marked feeds text ≡ text }
+{}
+
+/// A marked text has no hidden character, so nothing is hidden in what a page shows: none begins at one of its bytes, and none is among
+/// its characters, but line feeds that are kept.
+pub fn nothing_hidden_is_shown()
+    ensures bytes { (feeds : Feeds) (text : List ℕ) → has_none feeds (marked feeds text) ≡ true }
+    ensures characters { (feeds : Feeds) (text : List ℕ) → IsUtf8 text → hides_only (λ c. is_kept feeds c) (marked feeds text) ≡ true }
+{}
+
+/// If each text of a page stands between tags or in quotation marks, the tags of the page are those of the page
+/// without its texts.
+pub fn tags_are_of_markup()
+    ensures { (pieces : List Piece) (last : Context) → past_all (Some Content) pieces ≡ Some last → tags (html pieces) ≡ tags (html (map blank pieces)) }
+{}
 
 /// Each text is between tags, or in an id or a link within the page, and none is in a style or a script. So the tags of the page
 /// depend only on the shape of the page, on no text in it, and not on what is read in the place of an id.

@@ -1,15 +1,19 @@
-//! The page of a register in HTML: its markup and its contents.
+//! The page of a register in HTML: escaped texts, pages as lists of pieces, and the markup and the contents of the page.
 #![tactic(auto)]
 
 mod conflicts;
 mod entries;
+mod escaping;
 mod head;
 pub mod laws;
 mod links;
 mod maps;
+mod marks;
 pub mod markup;
 mod missing;
+mod pieces;
 mod script;
+mod short;
 mod standing;
 mod style;
 mod words;
@@ -22,6 +26,8 @@ pub use entries::{
 pub use head::{Figures, push_end, push_figures, push_head, push_mark, push_number};
 pub use links::{push_awaited_link, push_link};
 pub use maps::push_map;
+pub use marks::Feeds;
 pub use missing::{push_awaited, push_gap_counts, push_gap_start};
+pub use pieces::{Piece, push_pieces};
 pub use standing::Standing;
 pub use words::push_compared;

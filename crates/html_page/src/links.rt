@@ -1,12 +1,12 @@
 //! Links to entries.
 
 ghost use Rattle.std.specs.Prelude.{OnOk};
-ghost use Rattle.html_text.specs.Pieces.{Appends};
+ghost use Rattle.html_page.specs.Pieces.{Appends};
 ghost use Rattle.html_page.specs.Templates.{link_entered, link_awaited};
 
 use crate::markup::{AFTER_LINK, AFTER_MISSING, BEFORE_LINK_KEY, COLON, LINK, MISSING};
-use html_text::Piece::{Attribute, Markup, Short, Text};
-use html_text::push_pieces;
+use crate::pieces::Piece::{Attribute, Markup, Short, Text};
+use crate::pieces::push_pieces;
 use std::alloc::AllocError;
 
 /// Appends a link to an entry, which shows its key.

@@ -1,7 +1,7 @@
 //! Maps: bounding boxes over a grid of meridians and parallels.
 
 ghost use Rattle.std.specs.Prelude.{OnOk};
-ghost use Rattle.html_text.specs.Pieces.{Appends};
+ghost use Rattle.html_page.specs.Pieces.{Appends};
 ghost use Rattle.html_page.specs.Templates.{one_part, two_parts, drawing, caption, map_of};
 
 use crate::head::push_mark;
@@ -9,8 +9,8 @@ use crate::markup::{
     ACROSS, AFTER_BOX, AFTER_MAP, AFTER_WEST_END, BEFORE_EAST, BEFORE_NORTH, BEFORE_SOUTH,
     BEFORE_WEST, BOX, COMMA, FROM_WEST_END, MAP, TO_EAST_END, UP,
 };
-use html_text::Piece::{Markup, Numeral, Text};
-use html_text::push_pieces;
+use crate::pieces::Piece::{Markup, Numeral, Text};
+use crate::pieces::push_pieces;
 use std::alloc::AllocError;
 
 fn push_one_part<'a>(

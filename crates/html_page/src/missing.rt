@@ -1,15 +1,15 @@
 //! The awaited entries and the gaps of a register.
 
 ghost use Rattle.std.specs.Prelude.{OnOk};
-ghost use Rattle.html_text.specs.Pieces.{Appends};
+ghost use Rattle.html_page.specs.Pieces.{Appends};
 ghost use Rattle.html_page.specs.Templates.{awaited_item, gap_start, gap_counts};
 
 use crate::head::push_number;
 use crate::markup::{
     AFTER_AWAITED_ITEM, AFTER_GAP, AFTER_LOW, AWAITED_ITEM, BEFORE_HIGH, BEFORE_LOW, GAP,
 };
-use html_text::Piece::{Markup, Text};
-use html_text::push_pieces;
+use crate::pieces::Piece::{Markup, Text};
+use crate::pieces::push_pieces;
 use std::alloc::{AllocError, Global};
 
 /// Appends what is read in the place of an awaited id.

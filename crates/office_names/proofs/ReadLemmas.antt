@@ -1,6 +1,6 @@
 -- The names of rows, one after another.
 use Rattle.std.proofs.Common.{◌≡◌, ◌∙◌, ◌↔◌, ◌+◌, ◌<◌, ◌++◌, ◌∷◌, [], ℕ, List, Option, Some, None, true, false, refl, sym, ap, map, length, drop, arith, append_assoc}
-use Rattle.std.proofs.lemmas.List.{append-nil, map-append, length-append, drop_more}
+use Rattle.std.proofs.lemmas.List.{map-append, length-append, drop_more}
 use Rattle.std.proofs.Math.ListN.{get_or}
 use Rattle.csv.specs.Records.{Row, fields_of}
 use Rattle.office_names.specs.declared.names.Name.{Name}
@@ -10,9 +10,6 @@ use Rattle.office_names.specs.Reading.{given, pair, first_bad}
 pub unparsed : (p : Option (List ℕ)) → (false ≡ true) ↔ ((u : List ℕ) × (p ≡ Some u)) → None ≡ p
 unparsed None e = refl
 unparsed (Some u) e = let bad : false ≡ true = e.1 (u, refl) in absurd cc
-
-some_names : List Name → List (Option (List ℕ × List ℕ))
-some_names names = map (λ n. Some (pair n)) names
 
 -- a row that gives a name is read
 read_row : (names : List Name) (n : Name) (row : List (List ℕ)) (rest all : List (List (List ℕ))) → Some (pair n) ≡ given row

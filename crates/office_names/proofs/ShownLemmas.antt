@@ -1,8 +1,8 @@
 -- Texts with names, byte by byte.
-use Rattle.std.proofs.Common.{◌≡◌, ◌∙◌, ◌<◌, ◌-◌, ◌++◌, ◌∷◌, [], ℕ, zero, suc, Bool, true, false, List, refl, ap, sym, arith, length, append_assoc}
+use Rattle.std.proofs.Common.{◌≡◌, ◌<◌, ◌-◌, ◌++◌, ◌∷◌, [], ℕ, zero, suc, Bool, true, false, List, refl, ap, arith, length, append_assoc}
 use Rattle.std.proofs.lemmas.List.{append-nil}
 use Rattle.office_names.specs.declared.names.Name.{Name}
-use Rattle.office_names.specs.Shown.{is_gap, found, put, left_out, shown_from, shown}
+use Rattle.office_names.specs.Shown.{is_gap, found, put, left_out, shown_from}
 
 -- a byte that is left out
 pub skipped : (rest bs : List ℕ) (b skip : ℕ) (starts keeps : Bool) (names : List Name) → rest ≡ b ∷ bs → 0 < skip

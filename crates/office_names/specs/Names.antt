@@ -1,5 +1,5 @@
 -- Names of offices, as the rows of a file give them.
-use Rattle.std.specs.Prelude.{Bool, List, ℕ, [], ◌&&◌, not}
+use Rattle.std.specs.Prelude.{Bool, List, [], ◌&&◌, not}
 use Rattle.std.specs.Bool.{beq}
 use Rattle.std.specs.List.{list_all}
 use Rattle.std.specs.Str.{bytes_eq}

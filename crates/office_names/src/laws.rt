@@ -1,6 +1,6 @@
 //! The laws of names. The functions do nothing: their contracts are the laws.
 
-ghost use Rattle.std.specs.Prelude.{◌≡◌, ℕ, List, Bool, [], ◌∷◌, ◌++◌, true, false};
+ghost use Rattle.std.specs.Prelude.{◌≡◌, ℕ, List, Bool, []};
 ghost use Rattle.office_names.specs.Shown.{shown};
 
 /// Without names, each text is shown as it is.

@@ -2,7 +2,6 @@
 
 ghost use Rattle.std.specs.Prelude.{◌≡◌, ◌++◌, ◌∷◌, IfOk, OnOk, List, ℕ, Some, option_map};
 ghost use Rattle.office_names.specs.Shown.{is_gap, ends, begins, found, put, left_out, shown_from, shown};
-ghost use Rattle.std.specs.List.{find};
 
 use crate::names::{Name, stands};
 use std::alloc::{AllocError, Global};

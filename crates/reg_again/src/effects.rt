@@ -1,6 +1,6 @@
 //! Commands whose effects are known before anything is made.
 
-ghost use Rattle.std.specs.Prelude.{◌≡◌, ◌++◌, ◌∷◌, [], map, drop, IfOk};
+ghost use Rattle.std.specs.Prelude.{◌≡◌, ◌∷◌, [], IfOk};
 ghost use Rattle.reg_op.specs.declared.operation.OpBody.TheVariants as body;
 ghost use Rattle.reg_office.specs.Commands.{retirements, supersessions};
 
@@ -13,7 +13,7 @@ use wkt_crs::Definition;
 
 /// A command whose effects are known once it has read what it needs.
 pub trait Effects: Change {
-    ghost use Rattle.std.specs.Prelude.{◌≡◌, ℕ, List, IfOk, map};
+    ghost use Rattle.std.specs.Prelude.{◌≡◌, ℕ, List, IfOk};
     ghost use Rattle.reg_op.specs.declared.operation.OpBody.{OpBody as Body};
 
     /// The effects, in order.

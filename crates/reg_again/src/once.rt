@@ -1,6 +1,6 @@
 //! A command of an office that has its effects once, also if it is run again after a stop.
 
-ghost use Rattle.std.specs.Prelude.{◌≡◌, ◌+◌, ◌-◌, ◌++◌, [], length, IfOk, IfErr, IfSome};
+ghost use Rattle.std.specs.Prelude.{◌≡◌, ◌-◌, [], IfOk, IfErr, IfSome};
 ghost use Rattle.reg_state.specs.Runs.{ids_from};
 ghost use Rattle.reg_engine.specs.Outputs.{id_lines};
 
@@ -31,7 +31,7 @@ impl<C: Effects> Change for Once<'_, C> {
     type Read = Noted<C::Read>;
 
     ghost use Rattle.std.specs.Prelude.{◌≡◌, ◌⊎◌};
-    ghost use Rattle.std.proofs.Common.{refl, inl, inr, ◌∙◌};
+    ghost use Rattle.std.proofs.Common.{refl, inl, ◌∙◌};
     ghost use Rattle.reg_engine.specs.declared.fault.CliFault.TheVariants as cli;
     ghost use Rattle.reg_again.specs.Once.{IsNew, MakesOnce};
 

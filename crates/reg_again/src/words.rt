@@ -2,13 +2,13 @@
 
 ghost use Rattle.std.specs.Prelude.{◌≡◌, ◌++◌, IfOk, OnOk};
 ghost use Rattle.reg_office.specs.Commands.{supersessions};
-ghost use Rattle.reg_keyed.specs.Keyed.{each_superseded};
+ghost use Rattle.reg_commands.specs.Keyed.{each_superseded};
 
 use crate::effects::retirements;
 use crate::once::made_before;
+use reg_commands::{ChangeOf, RetireOf, SupersedeOf};
 use reg_engine::{CliFault, Made};
 use reg_journal::OfficeFile;
-use reg_keyed::{ChangeOf, RetireOf, SupersedeOf};
 use reg_op::{OpBody, OpId};
 use reg_state::Register;
 use std::alloc::{AllocError, Global};
@@ -59,7 +59,7 @@ impl EffectsOf for RetireOf<'_> {
 }
 
 impl EffectsOf for SupersedeOf<'_> {
-    ghost use Rattle.reg_keyed.specs.Keyed.{each_superseded};
+    ghost use Rattle.reg_commands.specs.Keyed.{each_superseded};
 
     ghost effects = { λ c. λ es. λ fs. each_superseded es fs };
 

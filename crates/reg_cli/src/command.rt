@@ -1,8 +1,8 @@
 //! Runs a command: from the command line to an engine, and from its result to the exit status.
 use crate::environment::Environment;
-use crate::outcome::{Ending, status};
 use crate::overwriting::overwritten;
 use crate::shells::completions;
+use crate::telling::{StandardError, told, told_plainly};
 use clap::error::ErrorKind;
 use clap::{ArgMatches, Error};
 use cli_exchange::faults::{Named, print_lines};
@@ -12,7 +12,8 @@ use cli_import::changes::{misnamed, office, retire, supersede};
 use cli_import::{enter, import, settle};
 use cli_look::desk::CliFault;
 use cli_look::{check, compare, diff, find, lint, log, offices, report, status as figures, texts};
-use cli_open::{MISUSE, Outcome, complain, explains, failed, is_table, names, print};
+use cli_open::{MISUSE, complain, explains, failed, is_table, names, print};
+use cli_outcome::NotDone;
 use cli_words::{CommandName, command_line, overview};
 use std::alloc::AllocError;
 use std::{env, io};
@@ -55,7 +56,10 @@ pub fn answer(rt: &HostRuntime, words: &[String]) -> u8 {
         Ok(matches) => perform_explained(rt, &matches),
         Err(error) if error.kind() == ErrorKind::OutOfMemory => failed(rt, &CliFault::Memory),
         Err(error) if error.use_stderr() => misused(rt, words, &error),
-        Err(help) => status(rt, Ending::of(print(rt, &help)), None),
+        Err(help) => match print(rt, &help) {
+            Ok(()) => 0,
+            Err(fault) => failed(rt, &fault),
+        },
     }
 }
 
@@ -100,10 +104,26 @@ fn perform_explained(rt: &HostRuntime, matches: &ArgMatches<'_>) -> u8 {
     let Ok(named) = named(rt, name, inner) else {
         return failed(rt, &CliFault::Memory);
     };
-    match perform(rt, name, inner) {
-        Some(ending) => status(rt, ending, named),
+    let status = performed(rt, name, inner, &named);
+    drop(named);
+    match status {
+        Some(status) => status,
         None => complain(rt, &NO_COMMAND, MISUSE),
     }
+}
+
+fn performed<'a>(
+    rt: &HostRuntime,
+    name: CommandName,
+    inner: &ArgMatches<'a>,
+    named: &Option<Named<'a>>,
+) -> Option<u8> {
+    let to = StandardError {
+        rt,
+        matches: inner,
+        named,
+    };
+    perform(rt, name, inner, &to)
 }
 
 // Whether the command shows names of offices, also if it prints no table.
@@ -127,57 +147,63 @@ fn named<'a>(
     Ok(Some(named))
 }
 
-// Runs the command, if clap passed only words that it knows.
-fn perform(rt: &HostRuntime, name: CommandName, inner: &ArgMatches<'_>) -> Option<Ending> {
+// Runs the command, and tells how it ended, if clap passed only words that it knows. Returns the exit status.
+fn perform(
+    rt: &HostRuntime,
+    name: CommandName,
+    inner: &ArgMatches<'_>,
+    to: &StandardError<'_, '_>,
+) -> Option<u8> {
     if inner.get_str("office").is_some() {
-        if let Some(ending) = mistaken(rt, inner) {
-            return Some(ending);
+        if let Some(why) = mistaken(rt, inner) {
+            return Some(told::<CliFault, CliFault, ()>(to, Err(why)));
         }
     }
     if let Some(line) = overwritten(rt, name, inner) {
-        return Some(Ending::Plain(Outcome::Misuse(line)));
+        let why = NotDone::Misuse(line);
+        return Some(told::<CliFault, CliFault, ()>(to, Err(why)));
     }
-    let ending = match name {
-        CommandName::Check => Ending::of_explained(check(rt, inner)),
-        CommandName::New => Ending::of(new(rt, inner)),
-        CommandName::Office => Ending::of(office(rt, inner)),
-        CommandName::Enter => Ending::of_explained(enter(rt, inner)),
-        CommandName::Import => Ending::of_import(import(rt, inner)),
-        CommandName::Supersede => Ending::of_superseded(supersede(rt, inner)),
-        CommandName::Retire => Ending::Plain(retire(rt, inner)),
-        CommandName::Settle => Ending::Plain(settle(rt, inner)),
-        CommandName::Find => Ending::Plain(find(rt, inner)),
-        CommandName::Lint => Ending::of_read(lint(rt, inner)),
-        CommandName::Show => Ending::of(show(rt, inner)),
-        CommandName::Wkt => Ending::of(wkt(rt, inner)),
-        CommandName::Texts => Ending::of(texts(rt, inner)),
-        CommandName::Compare => Ending::of_read(compare(rt, inner)),
-        CommandName::Export => Ending::Plain(export(rt, inner)),
-        CommandName::Graph => Ending::of(graph(rt, inner)),
-        CommandName::Ops => Ending::of(ops(rt, inner)),
-        CommandName::Log => Ending::of(log(rt, inner)),
-        CommandName::Report => Ending::of(report(rt, inner)?),
-        CommandName::Status => Ending::of(figures(rt, inner)),
-        CommandName::Offices => Ending::of(offices(rt, inner)),
-        CommandName::Page => Ending::of(page(rt, inner)),
-        CommandName::Diff => Ending::Plain(diff(rt, inner)),
-        CommandName::Take => Ending::Plain(take(rt, inner)),
-        CommandName::Merge => Ending::of(merge(rt, inner)),
-        CommandName::Seen => Ending::of(seen(rt, inner)),
-        CommandName::Piece => Ending::of(piece(rt, inner)),
-        CommandName::Downgrade => Ending::of(downgrade(rt, inner)),
-        CommandName::Shelf => Ending::of(shelf(rt, inner)),
-        CommandName::Unshelf => Ending::of(unshelf(rt, inner)),
-        CommandName::Completions => Ending::of(completions(rt, inner)?),
+    let status = match name {
+        CommandName::Check => told(to, check(rt, inner)),
+        CommandName::New => told_plainly(to, new(rt, inner)),
+        CommandName::Office => told_plainly(to, office(rt, inner)),
+        CommandName::Enter => told(to, enter(rt, inner)),
+        CommandName::Import => told(to, import(rt, inner)),
+        CommandName::Supersede => told(to, supersede(rt, inner)),
+        CommandName::Retire => told(to, retire(rt, inner)),
+        CommandName::Settle => told(to, settle(rt, inner)),
+        CommandName::Find => told(to, find(rt, inner)),
+        CommandName::Lint => told(to, lint(rt, inner)),
+        CommandName::Show => told_plainly(to, show(rt, inner)),
+        CommandName::Wkt => told_plainly(to, wkt(rt, inner)),
+        CommandName::Texts => told_plainly(to, texts(rt, inner)),
+        CommandName::Compare => told(to, compare(rt, inner)),
+        CommandName::Export => told(to, export(rt, inner)),
+        CommandName::Graph => told_plainly(to, graph(rt, inner)),
+        CommandName::Ops => told_plainly(to, ops(rt, inner)),
+        CommandName::Log => told_plainly(to, log(rt, inner)),
+        CommandName::Report => told_plainly(to, report(rt, inner)?),
+        CommandName::Status => told_plainly(to, figures(rt, inner)),
+        CommandName::Offices => told_plainly(to, offices(rt, inner)),
+        CommandName::Page => told_plainly(to, page(rt, inner)),
+        CommandName::Diff => told(to, diff(rt, inner)),
+        CommandName::Take => told(to, take(rt, inner)),
+        CommandName::Merge => told_plainly(to, merge(rt, inner)),
+        CommandName::Seen => told_plainly(to, seen(rt, inner)),
+        CommandName::Piece => told_plainly(to, piece(rt, inner)),
+        CommandName::Downgrade => told_plainly(to, downgrade(rt, inner)),
+        CommandName::Shelf => told_plainly(to, shelf(rt, inner)),
+        CommandName::Unshelf => told_plainly(to, unshelf(rt, inner)),
+        CommandName::Completions => told_plainly(to, completions(rt, inner)?),
     };
-    Some(ending)
+    Some(status)
 }
 
-// The end of a command with an office file, if its files cannot go together.
-fn mistaken(rt: &HostRuntime, inner: &ArgMatches<'_>) -> Option<Ending> {
+// Why a command with an office file is not run, if its files cannot go together.
+fn mistaken(rt: &HostRuntime, inner: &ArgMatches<'_>) -> Option<NotDone<CliFault>> {
     match misnamed(rt, rt.alloc(), inner) {
         Ok(None) => None,
-        Ok(Some(line)) => Some(Ending::Plain(Outcome::Misuse(line))),
-        Err(fault) => Some(Ending::Plain(Outcome::Fault(fault))),
+        Ok(Some(line)) => Some(NotDone::Misuse(line)),
+        Err(fault) => Some(NotDone::Fault(fault)),
     }
 }

@@ -3,9 +3,10 @@
 
 mod command;
 mod environment;
-mod outcome;
 mod overwriting;
+mod said;
 mod shells;
+mod telling;
 
 pub use cli_look::desk::{
     CliFault, Form, InputFault, OutFault, Refusal, ShelfProblem, run_check, run_enter,

@@ -23,19 +23,6 @@ use Rattle.reg_engine.specs.Fault.{office_fault}
 use Rattle.reg_engine.specs.Outputs.{id_lines}
 use Rattle.reg_commands.specs.Change.{Makes, IsRefused, CannotMake, ReadsDefinition, Enters, CannotEnter}
 
--- the same for equal contents and equal replicas
-pub does_of : (x y z : Content) (r s note : List ℕ) (bodies : List Body) (ids : List Id) → x ≡ y → r ≡ s → Does x r note bodies z ids → Does y s note bodies z ids
-does_of x y z r s note bodies ids e f h = subst (λ k. Does k s note bodies z ids) e (subst (λ k. Does x k note bodies z ids) f h)
-
-pub made_of : (x y : Content) (r s note : List ℕ) (bodies : List Body) (f : OfficeFault) → x ≡ y → r ≡ s
-    → (made x r note bodies ≡ Err f) ⊎ (f ≡ office.Memory) → (made y s note bodies ≡ Err f) ⊎ (f ≡ office.Memory)
-made_of x y r s note bodies f e g h = subst (λ k. (made k s note bodies ≡ Err f) ⊎ (f ≡ office.Memory)) e (subst (λ k. (made x k note bodies ≡ Err f) ⊎ (f ≡ office.Memory)) g h)
-
--- the command makes the content, and the lines of the ids, that the office gives
-pub makes_of : (x y z : Content) (r s note : List ℕ) (bodies : List Body) (ids js : List Id) (w : Content) (lines : List ℕ) → x ≡ y → r ≡ s → Does x r note bodies z ids → w ≡ z → lines ≡ id_lines js → js ≡ ids
-    → Makes s note bodies y w lines
-makes_of x y z r s note bodies ids js w lines e f h g l k = (ids, subst (λ k. Does y s note bodies k ids) (sym g) (does_of x y z r s note bodies ids e f h), subst (λ k. lines ≡ id_lines k) k l)
-
 -- a fault of the office that is reported as a refusal is why the office makes nothing
 pub refused_for : (x : Content) (replica note : List ℕ) (bodies : List Body) (f : OfficeFault) (r : Refusal) → office_fault f ≡ cli.Refused r
     → (made x replica note bodies ≡ Err f) ⊎ (f ≡ office.Memory) → IsRefused x replica note bodies r
@@ -44,11 +31,6 @@ refused_for x replica note bodies f r is (inr e) = absurd (never (subst (λ k. o
   where
     never : ◌≡◌ {A = CliFault} cli.Memory (cli.Refused r) → ⊥
     never h = cc
-
-pub cannot_make : (replica note : List ℕ) (bodies : List Body) (x : Content) (f : OfficeFault) → (made x replica note bodies ≡ Err f) ⊎ (f ≡ office.Memory)
-    → CannotMake replica note bodies x (office_fault f)
-cannot_make replica note bodies x office.Memory h = tt
-cannot_make replica note bodies x f h = refused_for x replica note bodies f (refusal.Office f) refl h
 
 -- ---- an entry
 

@@ -4,3 +4,6 @@ mod ExportLemmas
 pub mod MergeLemmas
 pub mod MergeOnLemmas
 mod ReportLemmas
+mod KeyedLemmas
+mod MeaningLemmas
+mod EachLemmas

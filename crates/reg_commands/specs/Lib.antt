@@ -7,3 +7,5 @@ pub mod Change
 pub mod ChangeLaws
 pub mod Report
 pub mod MergeOn
+pub mod Meaning
+pub mod Keyed

@@ -1,4 +1,5 @@
-//! The basic commands: check, enter, supersede, retire, merge, report, export and exchange, over any store, source, sink and place.
+//! The basic commands: check, enter, supersede, retire, merge, report, export and exchange, over any store, source, sink and place;
+//! and commands on the entries that words name, by id or by key.
 #![tactic(auto)]
 
 mod change;
@@ -12,6 +13,7 @@ mod on_devices;
 mod reports;
 mod shelves;
 mod wkt;
+mod words;
 
 pub use change::{Enter, Retire, Supersede, retired, superseded};
 pub use check::run_check;
@@ -25,6 +27,9 @@ pub use on_devices::{
 pub use reports::{Ops, Report, Show, run_ops, run_report, run_show};
 pub use shelves::run_shelf;
 pub use wkt::{Form, Wkt, run_wkt};
+pub use words::{
+    ByWord, ByWords, ChangeOf, PrintOf, RetireOf, ShowOf, SupersedeOf, WktOf, fault_of,
+};
 
 // The crate of drivers and faults, so that callers need only this one.
 pub use reg_engine as engine;

@@ -5,6 +5,7 @@ use Rattle.std.specs.List.{list_any}
 use Rattle.std.specs.Cmp.{Equal-is, tied_itself}
 use Rattle.std.specs.Ordering.{is_eq, eq_by_cmp}
 use Rattle.std.proofs.lemmas.Bool.{true≢false, or_cases, or_left, or_right}
+use mathlib.Core.Bool.{or-false}
 use Rattle.reg_op.specs.Set as set
 use Rattle.reg_op.specs.Set.{contains, union, contains-from_list}
 use Rattle.reg_op.specs.Ids.{Id, is_same}
@@ -27,7 +28,8 @@ use Rattle.reg_report.proofs.PairLemmas.{it_enters}
 use Rattle.reg_links.specs.declared.link.Link.{Link}
 use Rattle.reg_links.specs.Passing.{body_of, bodies_of}
 use Rattle.reg_links.specs.Retiring.{RetiresFor}
-use Rattle.reg_links.proofs.Rows.{row_status, row_enters, of_filter, retired_if, stands_if}
+use Rattle.reg_report.proofs.RowLemmas.{row_status, row_enters}
+use Rattle.reg_links.proofs.Rows.{of_filter, retired_if, stands_if}
 use Rattle.reg_links.specs.Links.{is_linked}
 use Rattle.reg_links.specs.Heirs.{IsHeir}
 use Rattle.reg_links.specs.Law.{SupersedesNone, IsHeirOfBoth}
@@ -94,16 +96,12 @@ none_retired : (ls : List Link) (e : Id) → list_any (is_retirement e) (bodies_
 none_retired [] e = refl
 none_retired (l ∷ ls) e = none_retired ls e
 
-or_end : (a : Bool) → (a || false) ≡ a
-or_end true = refl
-or_end false = refl
-
 -- links are made afterwards
 pub by_settling : (x y : Content) (replica note : List ℕ) (ids made : List Id) → RetiresFor x replica note ids y made → Leaves x y ids
 by_settling x y replica note ids made s =
     let first = by_retirements x s.between replica note ids s.retired s.retires in
     let d = (s.passes).does in record {
-      retired = λ e. retires_after s.between y replica note (bodies_of s.links) s.linked d e ∙ ap (λ b. retires (s.between).ops e || b) (none_retired s.links e) ∙ or_end (retires (s.between).ops e) ∙ first.retired e;
+      retired = λ e. retires_after s.between y replica note (bodies_of s.links) s.linked d e ∙ ap (λ b. retires (s.between).ops e || b) (none_retired s.links e) ∙ or-false (retires (s.between).ops e) ∙ first.retired e;
       still = λ e h. enters_after s.between y replica note (bodies_of s.links) s.linked d e ∙ or_left (enters (s.between).ops e) _ (first.still e h);
       entered = λ e text noted h. first.entered e text noted (entered_before s.between y replica note (bodies_of s.links) s.linked d (no_enter body_of (λ a t e. cc) s.links) e text noted h);
     }
@@ -167,7 +165,7 @@ module _ (x y : Content) (replica note : List ℕ) (ids made : List Id) (s : Ret
   enters_same : (i : Id) → enters (s.between).ops i ≡ enters x.ops i
   enters_same i =
       enters_after x s.between replica note (retirements ids) s.retired s.retires i
-      ∙ ap (λ b. enters x.ops i || b) (none_entered ids (s.retires).ops i (bodies_are x replica note (retirements ids) (s.retires).ops (s.retires).are_made)) ∙ or_end (enters x.ops i)
+      ∙ ap (λ b. enters x.ops i || b) (none_entered ids (s.retires).ops i (bodies_are x replica note (retirements ids) (s.retires).ops (s.retires).are_made)) ∙ or-false (enters x.ops i)
 
   pub links_same : (a b : Id) → a ≢ b → (is_linked y.ops a b ≡ true) ↔ IsHeirOfBoth x s.between a b
   links_same a b differ = same_links x s.between y replica note note (retirements ids) s.retired s.linked s.links s.retires (retirements_only ids) s.passes enters_same a b differ

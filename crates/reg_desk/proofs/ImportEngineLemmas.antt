@@ -1,5 +1,5 @@
 -- The result or the fault of an import, by its steps.
-use Rattle.std.proofs.Common.{◌≡◌, ◌⊎◌, [], ℕ, List, sym, subst, inl, inr}
+use Rattle.std.proofs.Common.{◌≡◌, [], ℕ, List, sym, subst, inl, inr}
 use Rattle.byte_io.specs.Device.{SourceState}
 use Rattle.reg_op.specs.Contents.{Content}
 use Rattle.reg_engine.specs.declared.fault.CliFault.{CliFault}

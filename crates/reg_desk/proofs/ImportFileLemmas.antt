@@ -23,14 +23,6 @@ tail_of (x ∷ xs) = xs
 pub gave_some : (o n : SourceState) (b : List ℕ) → Gives o n b → NeverFails o n
 gave_some o n b (read, short) = (b, read.given, read.front, read.bounded, read.quiet)
 
-pub all_gave : (os ns : List SourceState) (bs : List (List ℕ)) → GiveAll os ns bs → NoneFails os ns
-all_gave [] [] [] h = tt
-all_gave [] [] (b ∷ bs) h = absurd h
-all_gave [] (n ∷ ns) bs h = absurd h
-all_gave (o ∷ os) [] bs h = absurd h
-all_gave (o ∷ os) (n ∷ ns) [] h = absurd h
-all_gave (o ∷ os) (n ∷ ns) (b ∷ bs) h = (gave_some o n b h.0, all_gave os ns bs h.1)
-
 -- a source that is not read
 stops_at_once : (o : SourceState) → StopsEarly (most + 1) o o
 stops_at_once o = let g = (none_given (o ∷ [])).0 in (g.0, g.1, g.2, g.3, g.4, refl)

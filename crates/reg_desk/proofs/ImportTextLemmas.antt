@@ -1,7 +1,7 @@
 -- The loops that read the texts of files, and explain them.
 use Rattle.std.proofs.Common.{◌≡◌, ◌∷◌, ◌++◌, [], List, ℕ, ◌+◌, ◌≤◌, Bool, true, false, not, min, length, length-drop, map, drop, append_assoc, append-nil, refl, ap, sym, subst, arith, inl, inr, ◌∙◌}
 use Rattle.std.specs.List.{AllPass, list_any}
-use Rattle.std.proofs.lemmas.Bool.{cases_lt, and_parts, or_left, or_right}
+use Rattle.std.proofs.lemmas.Bool.{cases_lt, and_parts, or_left, or_right, not-true}
 use Rattle.std.proofs.lemmas.List.{length-map, map-append}
 use Rattle.wkt_tree.specs.Bytes.{is_blank}
 use Rattle.wkt_tree.specs.Tree.{Piece}
@@ -52,10 +52,6 @@ both_read (c ∷ front) back (t ∷ ts) us h k = (h.0, both_read front back ts u
 any_behind : (before texts : List FileText) → list_any is_unread (readings texts) ≡ true → list_any is_unread (readings (before ++ texts)) ≡ true
 any_behind [] texts h = h
 any_behind (t ∷ ts) texts h = or_right (is_unread t.reading) _ (any_behind ts texts h)
-
-not_going : (b : Bool) → not b ≡ true → b ≡ false
-not_going false h = refl
-not_going true h = absurd cc
 
 -- ---- the texts of a file
 
@@ -108,7 +104,7 @@ module _ (file : ℕ) (bytes : List ℕ) (old : List TextAt) (before : List File
           cuts = now.cuts;
           told = now.told;
           all = λ k. absurd cc;
-          unread = λ k. (not_going keep_going parts.0, any_behind s.texts (one.text ∷ []) (or_left (is_unread one.text.reading) false parts.1));
+          unread = λ k. (not-true keep_going parts.0, any_behind s.texts (one.text ∷ []) (or_left (is_unread one.text.reading) false parts.1));
         }
 
   -- the file has no more texts

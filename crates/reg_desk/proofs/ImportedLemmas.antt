@@ -36,7 +36,7 @@ use Rattle.reg_desk.specs.declared.import.fault.Unimported.{Unimported}
 use Rattle.reg_desk.specs.ImportFiles.{GiveAll}
 use Rattle.reg_desk.specs.ImportTexts.{TextAt, in_file, HaveTexts, BeginWith}
 use Rattle.reg_desk.specs.Import.{IsPlain, Makes, Refuses, IsRefusedBy, IsUnmadeOf, EndsAtFirst, IsUnmade, IsReady}
-use Rattle.reg_desk.specs.ImportLinks.{ImportsLinked, IsOnlyImported}
+use Rattle.reg_desk.specs.ImportLinks.{ImportsLinked}
 use Rattle.reg_desk.proofs.ImportedLinks.{same_entries, nothing_passed, only_note, its_own, none_there}
 use Rattle.reg_desk.proofs.ImportEngineLemmas.{weaker}
 use Rattle.reg_desk.proofs.SameTexts.{one_given, same_readings, are_readings}

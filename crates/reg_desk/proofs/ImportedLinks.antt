@@ -1,10 +1,11 @@
 -- The links that pass on after an import: they leave its entries as they are, and where none is cut, nothing is made.
-use Rattle.std.proofs.Common.{◌≡◌, ◌≢◌, ◌⊎◌, ℕ, ◌+◌, nat_lt, Bool, true, false, cond, not, ◌&&◌, ◌||◌, List, [], ◌∷◌, ◌++◌, map, length, Err, refl, sym, ap, ◌∙◌, subst, inl, inr}
-use Rattle.std.specs.Prelude.{Contains, Result, Option, Some, None}
+use Rattle.std.proofs.Common.{◌≡◌, ◌≢◌, ◌⊎◌, ℕ, ◌+◌, nat_lt, Bool, true, false, cond, not, ◌&&◌, ◌||◌, List, [], ◌∷◌, ◌++◌, map, length, Err, refl, sym, ap, ◌∙◌, subst}
+use Rattle.std.specs.Prelude.{Contains, Some, None}
 use Rattle.std.specs.List.{list_any}
 use Rattle.std.specs.Cmp.{tied_itself, both_ways}
 use Rattle.std.specs.Ordering.{is_eq, eq_by_cmp}
 use Rattle.std.proofs.lemmas.Bool.{true≢false, and_parts, or_left}
+use mathlib.Core.Bool.{or-false}
 use Rattle.reg_op.specs.Set as set
 use Rattle.reg_op.specs.Set.{contains, contains-items, contains-empty}
 use Rattle.reg_op.specs.Ids.{Id, is_same}
@@ -20,7 +21,7 @@ use Rattle.reg_office.specs.declared.fault.OfficeFault.{OfficeFault}
 use Rattle.reg_office.specs.declared.fault.OfficeFault.TheVariants as office
 use Rattle.reg_office.specs.Making.{greatest, made, made_unless, else_next}
 use Rattle.reg_office.specs.Commands.{Does}
-use Rattle.reg_import.proofs.StandingLemmas.{still_entered, then_retired, then_one_body, then_kept, nothing_done, gone}
+use Rattle.reg_import.proofs.StandingLemmas.{still_entered, then_retired, nothing_done, gone}
 use Rattle.reg_import.proofs.LastLemmas.{SameEntries}
 use Rattle.reg_links.specs.declared.link.Link.{Link}
 use Rattle.reg_import.specs.declared.standing_entry.StandingEntry.{StandingEntry}
@@ -50,16 +51,12 @@ none_gone : (ls : List Link) (i : Id) → gone i (bodies_of ls) ≡ false
 none_gone [] i = refl
 none_gone (l ∷ ls) i = none_gone ls i
 
-or_end : (a : Bool) → (a || false) ≡ a
-or_end true = refl
-or_end false = refl
-
 -- links enter and retire nothing
 pub same_entries : (m y : Content) (replica note : List ℕ) (ls : List Link) (ids : List Id) → Does m replica note (bodies_of ls) y ids → SameEntries m y
 same_entries m y replica note ls ids d = record {
   entered = λ i text noted. both_ways (contains m.ops (entering i text noted)) (contains y.ops (entering i text noted)) (still_entered m y replica note (bodies_of ls) ids d i text noted)
       (entered_before m y replica note (bodies_of ls) ids d (no_enter body_of (λ a t e. cc) ls) i text noted);
-  retired = λ i. sym (then_retired m y replica note (bodies_of ls) ids d i ∙ (λ j. retires m.ops i || none_gone ls i j) ∙ or_end (retires m.ops i));
+  retired = λ i. sym (then_retired m y replica note (bodies_of ls) ids d i ∙ (λ j. retires m.ops i || none_gone ls i j) ∙ or-false (retires m.ops i));
 }
 
 -- ---- no link is cut

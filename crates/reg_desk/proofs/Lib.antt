@@ -1,6 +1,5 @@
 pub mod DiffLemmas
 pub mod PartLemmas
-pub mod FindLemmas
 pub mod LookLemmas
 pub mod StatusLemmas
 mod SettleLemmas

@@ -8,7 +8,6 @@ use Rattle.reg_import.specs.declared.import.ImportRefusal.{ImportRefusal}
 use Rattle.reg_import.specs.declared.import.ImportRefusal.TheVariants as refused
 use Rattle.reg_import.specs.Readings.{readings}
 use Rattle.reg_engine.specs.Fault.{office_fault}
-use Rattle.reg_engine.specs.declared.fault.CliFault.{CliFault}
 use Rattle.reg_engine.specs.declared.fault.CliFault.TheVariants as cli
 use Rattle.reg_desk.specs.declared.import.options.ImportOptions.{ImportOptions}
 use Rattle.reg_desk.specs.declared.import.fault.ImportFault.TheVariants as import
@@ -25,7 +24,7 @@ use Rattle.reg_links.specs.declared.link.Link.{Link}
 use Rattle.reg_links.specs.Links.{links_in}
 use Rattle.reg_links.specs.Passing.{PassesOn, IsNotPassedOn}
 use Rattle.reg_desk.specs.ImportLinks.{ImportsLinked, IsOnlyImported, IsUnlinked}
-use Rattle.reg_desk.specs.Import.{IsPlain, IsRefusedBy, IsUnmadeOf}
+use Rattle.reg_desk.specs.Import.{IsRefusedBy, IsUnmadeOf}
 use Rattle.reg_desk.proofs.ImportEngineLemmas.{plain_is}
 
 module _ (o : ImportOptions) (first : ℕ) (x : Content) (files : List (List ℕ)) (cuts : List TextAt) (texts : List FileText) (why : LinkRefusal) (u : Unimported) where

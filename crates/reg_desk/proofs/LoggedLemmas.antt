@@ -6,7 +6,7 @@ use Rattle.reg_op.specs.Rows.{rows}
 use Rattle.reg_keys.specs.Told.{TellOf}
 use Rattle.reg_keys.proofs.LawLemmas as law
 use Rattle.reg_engine.specs.declared.fault.CliFault.{CliFault}
-use Rattle.reg_keyed.specs.Keyed.{key_fault}
+use Rattle.reg_commands.specs.Keyed.{key_fault}
 use Rattle.reg_desk.specs.Logged.{LogsOf, CannotLog, LogsFor, CannotLogFor}
 
 pub log_is : (words : List (List ℕ)) (x : Content) (es : List Id) (text : List ℕ) → TellOf (rows x.ops) words es → LogsFor words x text ↔ LogsOf es x text

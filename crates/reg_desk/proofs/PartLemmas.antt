@@ -1,28 +1,23 @@
 -- The registers and pieces that files gave, and their join.
-use Rattle.std.proofs.Common.{◌≡◌, ◌∷◌, [], List, ℕ, ◌+◌, ◌<◌, ◌≤◌, ◌^◌, zero, suc, length, refl, ap, sym, subst, append-nil, arith, Ok, Err, Result, Some, None, ◌∙◌}
+use Rattle.std.proofs.Common.{◌≡◌, ◌∷◌, [], List, ℕ, refl, ap, sym, subst, append-nil, arith, Ok, Err, Result, Some, None, ◌∙◌}
 use Rattle.std.specs.declared.option.Option.{Option}
 use Rattle.std.specs.Io.KnownBytes.{Consumes}
 use Rattle.byte_io.specs.Device.{SourceState}
-use Rattle.reg_file.specs.Files.{Finds}
 use Rattle.reg_file.specs.Parts.{FindsPart}
 use Rattle.reg_file.specs.declared.parts.Part.{Part}
-use Rattle.reg_file.specs.declared.parts.Part.TheVariants as part
 use Rattle.reg_join.specs.Joining.{all_joined}
 use Rattle.reg_op.specs.Contents.{Content, nothing, joined}
 use Rattle.reg_op.specs.Pieces.{Piece, PieceRefusal}
 use Rattle.reg_engine.specs.declared.fault.Refusal.TheVariants as refusal
 use Rattle.reg_engine.specs.declared.fault.CliFault.{CliFault}
 use Rattle.reg_engine.specs.declared.fault.CliFault.TheVariants as cli
-use Rattle.reg_engine.specs.Inputs.{NeverFails, HoldAll, NoneFails, GivePartsAfter, registers, pieces}
+use Rattle.reg_engine.specs.Inputs.{NeverFails, HoldAll, NoneFails, registers, pieces}
 use Rattle.reg_commands.specs.Merge.{begun, with_pieces, join_of, IsUnjoined}
 
 -- ---- files that were read
 
 part_gives : (o n : SourceState) (p : Part) → FindsPart o n p → NeverFails o n
 part_gives o n p (bytes, read, held) = (bytes, read.given, read.front, read.bounded, read.quiet)
-
-pub found_gives : (o n : SourceState) (x : Content) → Finds o n x → NeverFails o n
-found_gives o n x found = part_gives o n (part.Register x) found
 
 consumes_none : (left : Option (List ℕ)) → Consumes left left []
 consumes_none None = tt
@@ -69,20 +64,5 @@ abbrev head_of : Content → List Content → Content
 head_of d [] = d
 head_of d (x ∷ xs) = x
 
-abbrev tail_of : List Content → List Content
-tail_of [] = []
-tail_of (x ∷ xs) = xs
-
 pub first_is : (x first : Content) (xs ys later : List Content) → xs ≡ x ∷ ys → xs ≡ first ∷ later → first ≡ x
 first_is x first xs ys later e h = ap (head_of x) (sym h ∙ e)
-
-pub later_are : (x first : Content) (xs ys later : List Content) → xs ≡ x ∷ ys → xs ≡ first ∷ later → later ≡ ys
-later_are x first xs ys later e h = ap tail_of (sym h ∙ e)
-
-pub never_none : (x : Content) (xs ys : List Content) → xs ≡ x ∷ ys → length xs ≡ 0 → ⊥
-never_none x xs ys e h = absurd (omega (arith, ap length e))
-
-pub gives_from : (some others : List Content) (few none : List Piece) (old new : List SourceState) (xs : List Content) (qs : List Piece) → some ≡ others → few ≡ none
-    → GivePartsAfter some few old new xs qs → GivePartsAfter others none old new xs qs
-gives_from some others few none old new xs qs e f h =
-    subst (λ k. GivePartsAfter k none old new xs qs) e (subst (λ k. GivePartsAfter some k old new xs qs) f h)

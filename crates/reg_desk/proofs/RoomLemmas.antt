@@ -1,10 +1,8 @@
 -- The room on a shelf that was restored, by the size in its head.
-use Rattle.std.proofs.Common.{◌≡◌, ◌⊎◌, ◌+◌, ◌<◌, ◌≤◌, inl, inr, Bool, ℕ, List, length, take, drop, refl, sym, ap, subst, ◌∙◌, arith, length-take, length-drop}
-use Rattle.std.proofs.lemmas.List.{take-take, drop-take}
+use Rattle.std.proofs.Common.{◌≡◌, ◌⊎◌, ◌+◌, ◌<◌, ◌≤◌, inl, inr, Bool, ℕ, List, length, drop, refl, sym, ap, subst, ◌∙◌, arith, length-take, length-drop}
 use Rattle.std.specs.Prelude.{IsTrue, Err, IsErrOf}
 use Rattle.std.specs.Int.{w32, to_be_bytes}
 use Rattle.std.specs.declared.result.Result.{Result}
-use Rattle.byte_disk.specs.Disk.{ReadsAt}
 use Rattle.byte_disk.proofs.Moments.{weaker, joined}
 use Rattle.byte_shelf.specs.Shelf.{StandAt, HasHead}
 use Rattle.byte_shelf.specs.Keep.{CountsFault}
@@ -20,16 +18,6 @@ use Rattle.reg_engine.specs.Shelf.{Disks, IsSure, AddsNothingTo}
 use Rattle.reg_engine.specs.Store.{on_shelf}
 use Rattle.reg_engine.proofs.ShelfLemmas.{then_stays}
 use Rattle.reg_desk.specs.ImportRoom.{IsFull, room_on_shelf}
-
--- the head in the first five bytes of the disk is the head of the disk
-pub head_read : (s buf : List ℕ) (gate size : ℕ) → length buf ≡ 5 → ReadsAt s 0 5 buf → HasHead buf gate size → HasHead s gate size
-head_read s buf gate size long reads head =
-    let same : take 5 buf ≡ take 5 s = reads.bytes in
-    record {
-      gate_stands = sym (take-take 1 5 s (omega arith)) ∙ ap (λ (t : List ℕ). take 1 t) (sym same) ∙ take-take 1 5 buf (omega arith) ∙ head.gate_stands;
-      size_stands = sym (drop-take 1 4 s) ∙ ap (λ (t : List ℕ). drop 1 t) (sym same) ∙ drop-take 1 4 buf ∙ head.size_stands;
-      size_fits = head.size_fits;
-    }
 
 -- a shelf has at least the five bytes of its head
 long_head : (s : List ℕ) (n : ℕ) → StandAt s 1 (to_be_bytes w32 n) → 5 ≤ length s

@@ -2,7 +2,7 @@
 use Rattle.std.proofs.Common.{◌≡◌, ◌≢◌, ◌||◌, Bool, true, false, List, [], Some, Ok, refl, sym, ap, ◌∙◌, subst, inl, inr}
 use Rattle.std.specs.Prelude.{Contains}
 use Rattle.std.specs.List.{list_any}
-use Rattle.std.proofs.lemmas.Bool.{or_cases, or_left, or_right, true≢false}
+use Rattle.std.proofs.lemmas.Bool.{or_cases, or_left, or_right, true≢false, or_parts}
 use Rattle.reg_op.specs.Set.{contains, union}
 use Rattle.reg_op.specs.Ids.{Id, is_same, is_before}
 use Rattle.reg_op.specs.Kept.{entering}
@@ -22,12 +22,9 @@ use Rattle.reg_report.proofs.EntryLemmas.{row_is_entered, row_of_entry}
 use Rattle.reg_report.proofs.PairLemmas.{it_enters}
 use Rattle.reg_settle.specs.Doubles.{HasLesser, IsDouble, AreDoubles}
 use Rattle.reg_settle.proofs.Settled.{picked_are}
-use Rattle.reg_links.proofs.Rows.{row_status, row_enters, one_row, of_filter, stands_if, none_retires, join_retires, join_enters}
+use Rattle.reg_report.proofs.RowLemmas.{row_status, row_enters}
+use Rattle.reg_links.proofs.Rows.{one_row, of_filter, stands_if, none_retires, join_retires, join_enters}
 use Rattle.reg_desk.proofs.AfterRetiring.{is_listed, Leaves}
-
-or_none : (a b : Bool) → (a || b) ≡ false → (a ≡ false) × (b ≡ false)
-or_none true b h = absurd (true≢false h)
-or_none false b h = (refl, h)
 
 -- ---- a join
 
@@ -99,7 +96,7 @@ module _ (x y both : Content) (ix : IsContent x) (iy : IsContent y) (j : joined 
       let e = one.entry in
       let in_both : enters both.ops e ≡ true = row_enters both.ops one there in
       let none_both : retires both.ops e ≡ false = none_retires both.ops e in_both (λ gone. stands (row_status both.ops one there ∙ gone)) in
-      let none = or_none (retires x.ops e) (retires y.ops e) (sym (join_retires x y both j e) ∙ none_both) in
+      let none = or_parts (retires x.ops e) (retires y.ops e) (sym (join_retires x y both j e) ∙ none_both) in
       let jc : joined y x ≡ Ok both = joined_comm y x ∙ j in
       let none_xs : retires xs.ops e ≡ false = stays_unretired x xs ids l doubles e none.0 (λ r at en h. least (lesser_in_both x y both j is_content same one r there at en h)) in
       let none_ys : retires ys.ops e ≡ false = stays_unretired y ys others l_y doubles_y e none.1 (λ r at en h. least (lesser_in_both y x both jc is_content (λ i. sym (same i)) one r there at en h)) in

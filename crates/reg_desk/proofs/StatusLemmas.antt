@@ -1,13 +1,12 @@
 -- The lines of a report of files, one file at a time, and the fault that is reported.
-use Rattle.std.proofs.Common.{◌≡◌, ℕ, ◌+◌, ◌-◌, ◌<◌, ◌≤◌, min, Bor, List, [], ◌∷◌, ◌++◌, All, append_assoc, append-nil, length, length-append, length-drop, map, take, drop, get_or, zero, suc, arith, refl, sym, ap, ◌∙◌, subst, inl, inr, ◌⊎◌, Some, None}
+use Rattle.std.proofs.Common.{◌≡◌, ℕ, ◌+◌, ◌-◌, ◌<◌, ◌≤◌, min, Bor, List, [], ◌∷◌, ◌++◌, append_assoc, append-nil, length, length-drop, map, drop, get_or, arith, refl, sym, ap, ◌∙◌, subst, inl, inr, ◌⊎◌, None}
 use Rattle.std.proofs.lemmas.Bool.{cases_lt}
 use Rattle.std.proofs.lemmas.List.{drop_more, length-map}
 use Rattle.std.proofs.lemmas.List.Elements.{All-push}
 use Rattle.csv.specs.Writing.{row_text, default_writer}
-use Rattle.reg_engine.specs.declared.fault.CliFault.{CliFault}
 use Rattle.reg_desk.specs.declared.look.Look.{Look}
 use Rattle.reg_desk.specs.declared.look.Look.TheVariants as look
-use Rattle.reg_desk.specs.Status.{status_header, IsStatusLine, AreStatusLines, IsStatusText, fault_at, IsGood, AreGood, IsFirstBad}
+use Rattle.reg_desk.specs.Status.{IsStatusLine, AreStatusLines, IsStatusText, fault_at, IsGood, AreGood}
 
 abbrev pub text_of : Bor (List ℕ) → List ℕ
 text_of n = n.now
@@ -51,12 +50,6 @@ lines_done names looks i text out past h done =
 abbrev pub Passed : List Look → List Look → Type 0
 Passed looks rest = (before : List Look) × (looks ≡ before ++ rest) × AreGood before
 
-none_good : AreGood []
-none_good k d h = absurd (omega arith)
-
-pub none_passed : (looks : List Look) → Passed looks looks
-none_passed looks = ([], refl, none_good)
-
 good_of : (k : ℕ) (l : Look) → fault_at k l ≡ None → IsGood l
 good_of k (look.Figures n f) e = tt
 good_of k (look.NoRegister n f) e = absurd (cc)
@@ -69,17 +62,3 @@ passed_more looks rest others l number e is (before, all, good) = (
   all ∙ ap (λ r. before ++ r) e ∙ sym (append_assoc before (l ∷ []) others),
   All-push IsGood before l good (good_of number l is),
 )
-
-pub first_bad : (looks rest others : List Look) (l : Look) (f : CliFault) (number : ℕ) → rest ≡ l ∷ others → fault_at number l ≡ Some f → number ≡ length looks - length others → Passed looks rest
-    → IsFirstBad looks f
-first_bad looks rest others l f number e is at (before, all, good) =
-    let parts : looks ≡ before ++ l ∷ others = all ∙ ap (λ r. before ++ r) e in
-    let counts : number ≡ length before + 1 = omega (arith, at, ap length parts, length-append before (l ∷ others)) in
-    (before, l, others, parts, good, subst (λ k. fault_at k l ≡ Some f) counts is)
-
-pub less_long : (looks rest others : List Look) (l : Look) → rest ≡ l ∷ others → Passed looks rest → length others ≤ length looks
-less_long looks rest others l e (before, all, good) = omega (arith, ap length all, length-append before rest, ap length e)
-
-pub all_passed : (looks rest : List Look) → length rest ≡ 0 → Passed looks rest → AreGood looks
-all_passed looks [] h (before, all, good) = subst AreGood (sym (all ∙ append-nil before)) good
-all_passed looks (l ∷ rest) h p = absurd (omega arith)

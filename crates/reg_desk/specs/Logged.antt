@@ -7,12 +7,12 @@ use Rattle.reg_op.specs.Contents.{Content}
 use Rattle.reg_op.specs.Rows.{rows}
 use Rattle.reg_office.specs.declared.fault.OfficeFault.TheVariants as office
 use Rattle.reg_keys.specs.Told.{TellOf, AreUntold}
-use Rattle.reg_log.specs.Asked.{first_unlogged}
-use Rattle.reg_log.specs.Lines.{IsLog}
+use Rattle.reg_query.specs.Asked.{first_unlogged}
+use Rattle.reg_query.specs.LogLines.{IsLog}
 use Rattle.reg_engine.specs.declared.fault.Refusal.TheVariants as refusal
 use Rattle.reg_engine.specs.declared.fault.CliFault.{CliFault}
 use Rattle.reg_engine.specs.declared.fault.CliFault.TheVariants as cli
-use Rattle.reg_keyed.specs.Keyed.{IsUnnamed}
+use Rattle.reg_commands.specs.Keyed.{IsUnnamed}
 
 -- the log of all entries
 abbrev pub LogsAll : Content → List ℕ → Type 0

@@ -1,11 +1,11 @@
 //! The command `log`.
 
+use reg_commands::fault_of;
 use reg_engine::{CliFault, Print, Refusal};
-use reg_keyed::fault_of;
 use reg_keys::told;
-use reg_log::{Asked, first_unlogged, log_text};
 use reg_office::OfficeFault;
 use reg_op::OpId;
+use reg_query::{Asked, first_unlogged, log_text};
 use reg_state::Register;
 use std::alloc::Global;
 

@@ -6,8 +6,7 @@ ghost use Rattle.reg_engine.specs.Shelf.{disks, StaysOn};
 ghost use Rattle.reg_desk.specs.Look.{HasLook, IsLook, IsLookOf, IsShelfLook, IsRegisterLook, look_if};
 
 use byte_disk::Disk;
-use byte_io::{InFault, Source, read_up_to};
-use byte_late::LateSource;
+use byte_io::{InFault, LateSource, Source, read_up_to};
 use byte_shelf::{ShelfFault, restore};
 use reg_engine::{InputFault, ShelfProblem};
 use reg_file::{MAX_FILE, ReadFileFault, read_bytes};

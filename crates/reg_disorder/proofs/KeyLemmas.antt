@@ -10,9 +10,10 @@ use Rattle.reg_report.specs.Conflicts.{KeyBytes, key_cmp, HasKey}
 use Rattle.reg_report.specs.Exports.{is_retired}
 use Rattle.reg_report.proofs.ConflictLemmas.{none_in, key_total, key_exact}
 use Rattle.reg_report.proofs.ContenderLemmas.{one_key}
-use Rattle.reg_disorder.specs.declared.withdrawn.KeyText.{KeyText}
+use Rattle.reg_report.specs.declared.key.KeyText.{KeyText}
+use Rattle.reg_report.specs.Keys.{key_bytes}
 use Rattle.reg_disorder.specs.Disorders.{IsWithdrawn}
-use Rattle.reg_disorder.specs.Keys.{key_bytes, KeySet, has_key, PutsRowKey, IsLive, HasLiveKeys}
+use Rattle.reg_disorder.specs.Keys.{KeySet, has_key, PutsRowKey, IsLive, HasLiveKeys}
 use Rattle.reg_disorder.proofs.ListLemmas.{exact_of}
 
 pub no_keys : (s : KeySet) → s.keys ≡ [] → HasLiveKeys [] s

@@ -5,10 +5,8 @@ use Rattle.std.specs.Ordering.{is_eq}
 use Rattle.reg_op.specs.Rows.{Row}
 use Rattle.reg_report.specs.Conflicts.{KeyBytes, key_cmp, HasKey}
 use Rattle.reg_report.specs.Exports.{is_retired}
-use Rattle.reg_disorder.specs.declared.withdrawn.KeyText.{KeyText}
-
-abbrev pub key_bytes : KeyText → KeyBytes
-key_bytes k = record { authority = k.authority.now; code = k.code.now }
+use Rattle.reg_report.specs.declared.key.KeyText.{KeyText}
+use Rattle.reg_report.specs.Keys.{key_bytes}
 
 abbrev pub KeySet : Type 0
 KeySet = BTreeSet KeyText

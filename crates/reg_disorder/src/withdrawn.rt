@@ -2,34 +2,17 @@
 
 ghost use Rattle.std.specs.Prelude.{◌↔◌, List, IsTrue, map, IfOk, OnOk};
 ghost use Rattle.reg_op.specs.Rows.{Row as OneRow};
-ghost use Rattle.reg_report.specs.Conflicts.{HasKey};
+ghost use Rattle.reg_report.specs.Keys.{key_bytes};
 ghost use Rattle.reg_report.specs.Seen.{row_seen};
 ghost use Rattle.reg_disorder.specs.Disorders.{IsWithdrawn};
-ghost use Rattle.reg_disorder.specs.Keys.{key_bytes, PutsKey, PutsRowKey, HasLiveKeys};
+ghost use Rattle.reg_disorder.specs.Keys.{PutsKey, PutsRowKey, HasLiveKeys};
 ghost use Rattle.reg_disorder.specs.Lists.{listed_seen, AreOf};
 
 use crate::listed::{Listed, push_where};
 use crate::standing::is_retired;
-use reg_report::Row;
+use reg_report::{KeyText, Row, key_of};
 use std::alloc::{AllocError, Global};
 use std::collections::BTreeSet;
-
-/// The bytes of a key, ordered by the authority and then by the code.
-#[derive(Clone, Copy, PartialEq, Eq, PartialOrd, Ord)]
-pub struct KeyText<'a> {
-    pub authority: &'a [u8],
-    pub code: &'a [u8],
-}
-
-fn key_of(row: &Row) -> KeyText<'_>
-    ensures { HasKey (row_seen row.now).definition (key_bytes result) }
-{
-    let key = row.definition.key();
-    KeyText {
-        authority: key.authority.as_bytes(),
-        code: key.code.as_bytes(),
-    }
-}
 
 fn put_key<'a>(live: &mut BTreeSet<KeyText<'a>>, key: KeyText<'a>) -> Result<(), AllocError>
     ensures { OnOk result (PutsKey (key_bytes key.entry) live.old live.new) }

@@ -4,7 +4,6 @@ use Rattle.std.proofs.lemmas.List.{take_all, length-map}
 use Rattle.std.specs.declared.option.Option.{Option}
 use Rattle.std.specs.Io.KnownBytes.{Consumes}
 use Rattle.byte_io.specs.Device.{SourceState}
-use Rattle.reg_file.specs.Files.{Finds}
 use Rattle.reg_file.specs.Parts.{FindsPart}
 use Rattle.reg_file.specs.declared.parts.Part.{Part}
 use Rattle.reg_file.specs.declared.parts.Part.TheVariants as part
@@ -25,9 +24,6 @@ tail_of (x ∷ xs) = xs
 
 pub part_gives : (o n : SourceState) (p : Part) → FindsPart o n p → NeverFails o n
 part_gives o n p (bytes, read, held) = (bytes, read.given, read.front, read.bounded, read.quiet)
-
-pub found_gives : (o n : SourceState) (x : Content) → Finds o n x → NeverFails o n
-found_gives o n x found = part_gives o n (part.Register x) found
 
 pub Consumes-none : (left : Option (List ℕ)) → Consumes left left []
 Consumes-none None = tt

@@ -1,6 +1,6 @@
 //! The steps of a command that prints something of a register, writes a file of it, or changes it, in a file or on a shelf.
 
-ghost use Rattle.std.specs.Prelude.{◌≡◌, OnOk, IfErr};
+ghost use Rattle.std.specs.Prelude.{OnOk, IfErr};
 ghost use Rattle.byte_io.specs.Whole.{WritesAll};
 ghost use Rattle.reg_op.specs.Contents.{Content};
 ghost use Rattle.reg_engine.specs.Store.{AreCut, IsPrinted, IsUnprinted, IsGiven, IsUngiven, IsTold, IsUntold, IsChanged, IsUnchanged, MakesIn, StopsIn};

@@ -1,6 +1,6 @@
 -- An operation that is read has the bytes that are written for it, and where reading an operation stops.
 use Rattle.std.proofs.Common.{◌≡◌, ℕ, ◌≤◌, ◌||◌, Bool, true, false, cond, eqb, ltb, List, [], ◌∷◌, ◌++◌, length, Option, Result, Ok, refl, sym, ap, subst, ◌∙◌, append_assoc, arith}
-use Rattle.std.proofs.lemmas.Bool.{ltb-false, eqb-true, true≢false}
+use Rattle.std.proofs.lemmas.Bool.{ltb-false, eqb-true, true≢false, or_parts}
 use Rattle.std.proofs.lemmas.Bool.Decides.{nat_tests}
 use Rattle.std.specs.Ordering.{is_eq}
 use Rattle.std.specs.Cmp.{tied_itself}
@@ -19,7 +19,7 @@ use Rattle.reg_file.specs.Fields.{◌>>=◌, Fails, id_at, own_at, text_at, pair
 use Rattle.reg_file.specs.Readers.{field, StopsIn}
 use Rattle.reg_file.specs.Reading.{FailsAs, body, headed_body, operation}
 use Rattle.reg_file.specs.Steps.{StopsInText, StopsAs}
-use Rattle.reg_file.proofs.FieldLemmas.{IsBytes, IsBytes-rest, bind_ok, guard_ok, ok_is, none_of, Takes, Takes-then, IsOwn, id_takes, id_again, own_takes, own_again, text_takes, text_again, pair_takes, pair_again}
+use Rattle.reg_file.proofs.FieldLemmas.{IsBytes, IsBytes-rest, bind_ok, guard_ok, ok_is, Takes, Takes-then, IsOwn, id_takes, id_again, own_takes, own_again, text_takes, text_again, pair_takes, pair_again}
 use Rattle.reg_file.proofs.NoteLemmas.{IsTold, IsFit, note_takes, note_again}
 use Rattle.reg_file.proofs.Sequences.{stops_field, stops_front, stops_back}
 
@@ -82,7 +82,7 @@ unfolding op_kind_at
 op_kind_takes [] k rest e = absurd cc
 op_kind_takes (b ∷ bytes) k rest e =
     let g = guard_ok (eqb b 0 || ltb 3 b) (record { fault = OpKind; left = length (b ∷ bytes) }) (Ok (b, bytes)) (k, rest) e in
-    let t = none_of (eqb b 0) (ltb 3 b) g.0 in
+    let t = or_parts (eqb b 0) (ltb 3 b) g.0 in
     let is = ok_is (b, bytes) (k, rest) g.1 in
     let b_is : b ≡ k = ap (λ (p : ℕ × List ℕ). p.0) is in
     let low : 1 ≤ b = above b t.0 in

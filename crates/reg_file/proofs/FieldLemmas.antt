@@ -2,7 +2,7 @@
 use Rattle.std.proofs.Common.{◌≡◌, ℕ, suc, ◌+◌, ◌^◌, ◌<◌, ◌≤◌, ◌||◌, Bool, true, false, cond, eqb, ltb, List, [], ◌∷◌, ◌++◌, length, get_or, take, drop, Option, Result, Ok, Err, refl, sym, ap, subst, ◌∙◌, append_assoc, arith, inl, inr}
 use Rattle.std.specs.Prelude.{All}
 use Rattle.std.specs.Int.{Width, w32, byte_len, from_be_bytes, to_be_bytes}
-use Rattle.std.proofs.lemmas.Bool.{cases_lt, ltb-false, le-ltb, eqb-true}
+use Rattle.std.proofs.lemmas.Bool.{cases_lt, ltb-false, le-ltb, eqb-true, or_parts}
 use Rattle.std.proofs.lemmas.List.{take_at, drop_at, take-append-drop, length-append, length-take, get_or-drop, get_or-take, get_or_past}
 use Rattle.std.proofs.lemmas.Grind.{get_or_default_zero}
 use Rattle.std.proofs.lemmas.Nat.{be_bytes_4, from_be_bytes-to_be_bytes_4}
@@ -55,10 +55,6 @@ done x = Ok x
 
 pub ok_is : {A : Type 0} (x y : A) → done x ≡ done y → x ≡ y
 ok_is x y e = cc
-
-pub none_of : (a b : Bool) → (a || b) ≡ false → (a ≡ false) × (b ≡ false)
-none_of true b e = absurd cc
-none_of false b e = (refl, e)
 
 -- the bytes are the text and the rest after it
 pub record Takes (bytes text rest : List ℕ) : Type 0 where
@@ -194,8 +190,8 @@ span_tested basis replica floor bytes s rest e =
     let b = bind_ok (number_at w32 a.0.1) (λ high. cond (is_unfit basis replica floor (span_from a.0.0 high.0)) (refused Ranges (length bytes)) (Ok (span_from a.0.0 high.0, high.1))) (s, rest) a.2 in
     let made : Span × List ℕ = (span_from a.0.0 b.0.0, b.0.1) in
     let g = guard_ok (is_unfit basis replica floor made.0) (at Ranges (length bytes)) (Ok made) (s, rest) b.2 in
-    let t = none_of (ltb a.0.0 floor) (ltb b.0.0 a.0.0 || meets basis (run_at replica made.0)) g.0 in
-    let u = none_of (ltb b.0.0 a.0.0) (meets basis (run_at replica made.0)) t.1 in
+    let t = or_parts (ltb a.0.0 floor) (ltb b.0.0 a.0.0 || meets basis (run_at replica made.0)) g.0 in
+    let u = or_parts (ltb b.0.0 a.0.0) (meets basis (run_at replica made.0)) t.1 in
     subst (λ (y : Span × List ℕ). IsTested basis replica floor bytes y.0 y.1) (ok_is made (s, rest) g.1)
     (record { mid = a.0.1; low = a.1; high = b.1; above = ltb-false _ _ t.0; ordered = ltb-false _ _ u.0; apart = u.1 })
 

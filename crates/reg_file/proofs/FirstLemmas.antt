@@ -26,9 +26,6 @@ pub no_bytes : (note : List ℕ) → eqb (length note) 0 ≡ true → note ≡ [
 no_bytes [] h = refl
 no_bytes (b ∷ note) h = absurd (true≢false (sym h ∙ not_zero (length (b ∷ note)) (omega arith)))
 
-pub first_here : (o : Op) (os : List Op) → (o.note ≡ [] → ⊥) → first_in (o ∷ os) ≡ Some o.id
-first_here o os some = rw (some_bytes o.note some) refl
-
 pub first_later : (o : Op) (os : List Op) → o.note ≡ [] → first_in (o ∷ os) ≡ first_in os
 first_later o os none = ap (λ n. cond (eqb (length n) 0) (first_in os) (Some o.id)) none
 

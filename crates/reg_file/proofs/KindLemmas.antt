@@ -1,5 +1,5 @@
 -- Files of different kinds differ in the byte of the kind.
-use Rattle.std.proofs.Common.{◌≡◌, ℕ, Bool, true, false, List, ◌++◌, get_or, sym, ap, subst, arith, inl, inr}
+use Rattle.std.proofs.Common.{◌≡◌, ℕ, Bool, true, false, List, ◌++◌, get_or, ap, arith, inl, inr}
 use Rattle.reg_op.specs.Ids.{Ids}
 use Rattle.reg_op.specs.Contents.{Content}
 use Rattle.reg_op.specs.Pieces.{Piece}
@@ -53,9 +53,6 @@ register_says bytes x (inr h) = ap says_piece h.0.bytes_are.whole
 pub piece_says : (bytes : List ℕ) (p : Piece) → ReadsAsPiece bytes p → says_piece bytes ≡ true
 piece_says bytes p (inl h) = ap says_piece h.bytes_are.whole
 piece_says bytes p (inr h) = ap says_piece h.0.bytes_are.whole
-
-pub part_fault : (b : Bool) (bytes : List ℕ) (f : FileFault) (place : ℕ) → says_piece bytes ≡ b → FaultBy b bytes f place → HasPartFault bytes f place
-part_fault b bytes f place e h = subst (λ c. FaultBy c bytes f place) (sym e) h
 
 by_kind : (b : Bool) (bytes : List ℕ) (f g : FileFault) (m n : ℕ) → FaultBy b bytes f m → FaultBy b bytes g n → (f ≡ g) × (m ≡ n)
 by_kind true bytes f g m n h k = pieces.one_first_fault bytes f g m n h k

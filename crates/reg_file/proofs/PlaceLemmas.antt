@@ -1,13 +1,13 @@
 -- The places of operations: the number of bytes from each one to the end of the file.
-use Rattle.std.proofs.Common.{◌≡◌, ℕ, true, false, List, [], ◌∷◌, ◌++◌, length, refl, sym, ap, ◌∙◌, append_assoc}
+use Rattle.std.proofs.Common.{◌≡◌, ℕ, List, [], ◌∷◌, ◌++◌, length, sym, ap, ◌∙◌, append_assoc}
 use Rattle.std.specs.List.{flat_map}
 use Rattle.std.proofs.lemmas.List.{append-nil}
 use Rattle.std.proofs.lemmas.List.Concat.{flat_map-cons}
-use Rattle.reg_op.specs.Ids.{Id, is_same}
+use Rattle.reg_op.specs.Ids.{Id}
 use Rattle.reg_op.specs.Operations.{Op}
 use Rattle.reg_file.specs.declared.op_offset.OpOffset.{OpOffset}
 use Rattle.reg_file.specs.Layout.{op_bytes}
-use Rattle.reg_file.specs.Reading.{places_of, left_in}
+use Rattle.reg_file.specs.Reading.{places_of}
 
 abbrev place_at : Id → ℕ → OpOffset
 place_at id left = record { id = id; left = left }
@@ -22,10 +22,3 @@ flat-push version (x ∷ os) o rest =
 pub places-push : (version : ℕ) (os : List Op) (o : Op) (rest : List ℕ) → places_of version (os ++ o ∷ []) rest ≡ places_of version os (op_bytes version o ++ rest) ++ place_at o.id (length (op_bytes version o ++ rest)) ∷ []
 places-push version [] o rest = ap (λ (t : List ℕ). place_at o.id (length t) ∷ []) (flat-push version [] o rest)
 places-push version (x ∷ os) o rest = λ k. place_at x.id (length (flat-push version (x ∷ os) o rest k)) ∷ places-push version os o rest k
-
--- the first place with the id is found
-pub left_in_first : (id : Id) (p : OpOffset) (ps : List OpOffset) → is_same p.id id ≡ true → left_in (p ∷ ps) id ≡ p.left
-left_in_first id p ps h = rw h refl
-
-pub left_in_later : (id : Id) (p : OpOffset) (ps : List OpOffset) → is_same p.id id ≡ false → left_in (p ∷ ps) id ≡ left_in ps id
-left_in_later id p ps h = rw h refl

@@ -1,7 +1,8 @@
 -- Ranges that are read in sequence, and the ids that they add to a set.
-use Rattle.std.proofs.Common.{◌≡◌, ℕ, ◌+◌, ◌<◌, ◌≤◌, Bool, true, false, ◌||◌, List, [], ◌∷◌, ◌++◌, map, Option, Some, None, Ok, refl, sym, ap, subst, ◌∙◌, append_assoc, arith, inl, inr}
+use Rattle.std.proofs.Common.{◌≡◌, ℕ, ◌+◌, ◌<◌, ◌≤◌, true, List, [], ◌∷◌, ◌++◌, map, Option, Some, None, Ok, refl, sym, ap, subst, ◌∙◌, append_assoc, arith, inl, inr}
 use Rattle.std.proofs.lemmas.Bool.{or_cases, true≢false}
 use Rattle.std.proofs.lemmas.List.{append-nil, length_push}
+use mathlib.Core.Bool.{or-false}
 use Rattle.reg_op.specs.Set as set
 use Rattle.reg_op.specs.Ids.{Id, Ids, id_cmp}
 use Rattle.reg_op.proofs.OpLemmas.{id_total}
@@ -39,10 +40,6 @@ with_runs-seen xs (r ∷ rs) = ap (λ s. with_runs s rs) (sym (seen_of-push xs r
 pub with_runs-empty : (rs : List Run) → with_runs set.empty rs ≡ seen_of rs
 with_runs-empty rs = with_runs-seen [] rs
 
-or-false : (b : Bool) → (b || false) ≡ b
-or-false true = refl
-or-false false = refl
-
 pub contains_run : (r : Run) (i : Id) → set.contains (set.from_list {R = id_cmp} (ids_of_run r)) i ≡ is_in_run i r
 contains_run r i = ap (λ l. set.contains (set.from_list {R = id_cmp} l) i) (sym (append-nil (ids_of_run r))) ∙ contains-seen_of (r ∷ []) i ∙ or-false (is_in_run i r)
 
@@ -50,9 +47,6 @@ contains_run r i = ap (λ l. set.contains (set.from_list {R = id_cmp} l) i) (sym
 
 pub above_run : (s : Ids) (r : Run) (floor : ℕ) → IsUnder s r.replica floor → floor ≤ r.low → IsAbove s r
 above_run s r floor under low i h = elim (under i h) [ inl a ↦ inl a | inr b ↦ inr (b.0, (let k : i.count + 1 < floor = b.1 in omega arith)) ]
-
-pub start_spans : (basis old : Ids) (replica bytes : List ℕ) → IsUnder old replica 1 → IsAddingSpans basis old old replica bytes bytes 1 0
-start_spans basis old replica bytes under = record { all = []; reads = refl; floor_is = refl; adds = refl; counted = refl; under = under; positive = omega arith }
 
 under_more : (now : Ids) (r : Run) (floor : ℕ) → IsUnder now r.replica floor → floor ≤ r.low → r.low ≤ r.high → IsUnder (set.union now (set.from_list (ids_of_run r))) r.replica (r.high + 2)
 under_more now r floor under low high i h =
@@ -75,14 +69,6 @@ step_spans basis old now new replica bytes rest floor n s after i e added =
       under = subst (λ t. IsUnder t replica (s.high + 2)) (sym added) (under_more now run floor i.under o.above o.ordered);
       positive = omega arith;
     }
-
-pub end_spans : (basis old now : Ids) (replica bytes rest : List ℕ) (floor n : ℕ) → IsAddingSpans basis old now replica bytes rest floor n → AddsSpans basis old now replica n bytes rest
-end_spans basis old now replica bytes rest floor n i = record {
-  all = i.all;
-  reads = (i.reads, i.counted);
-  adds = i.adds;
-  up_to = λ j h. elim (i.under j h) [ inl a ↦ inl a | inr b ↦ inr b.0 ];
-}
 
 -- ---- replicas
 

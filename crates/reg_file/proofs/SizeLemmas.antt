@@ -10,7 +10,7 @@ use Rattle.reg_op.specs.Contents.{Content}
 use Rattle.reg_state.specs.declared.run.Run.{Run}
 use Rattle.reg_state.specs.Runs.{AreRuns, EndInIds, seen_of}
 use Rattle.reg_file.specs.declared.span.Span.{Span}
-use Rattle.reg_file.specs.Layout.{four, op_bytes, ops_bytes, span_bytes, Group, group_bytes, ranges_bytes, run_at, runs_of, grouped, head, register_file, seen_file, piece_file}
+use Rattle.reg_file.specs.Layout.{four, span_bytes, Group, group_bytes, ranges_bytes, run_at, runs_of, grouped, register_file}
 use Rattle.reg_file.specs.Files.{most, IsFileIn, IsTooLargeIn}
 use Rattle.reg_file.proofs.GroupLemmas.{AreGroups, runs_grouped, good_groups}
 use Rattle.reg_file.proofs.ApartLemmas.{apart_from_none}
@@ -62,34 +62,6 @@ ranges_over size rs replicas limit are ids few counted h = subst (λ n. limit < 
 
 pub many_runs : (size : ℕ) (rs : List Run) → most < length rs → most < size + length (ranges_bytes (grouped rs))
 many_runs size rs h = let l = ranges_long rs in omega arith
-
--- ---- the length of files
-
-pub register_length : (version : ℕ) (os : List Op) (rs : List Run) → length (register_file version os rs) ≡ 10 + length (ranges_bytes (grouped rs)) + length (flat_map (op_bytes version) os)
-register_length version os rs =
-    let a = length-append (head version 1) (ranges_bytes (grouped rs) ++ ops_bytes version os) in
-    let b = length-append (ranges_bytes (grouped rs)) (ops_bytes version os) in
-    let c = length-append (four (length os)) (flat_map (op_bytes version) os) in
-    let four_are : length (four (length os)) ≡ 4 = refl in
-    let six : length (head version 1) ≡ 6 = refl in
-    omega arith
-
-pub seen_length : (version : ℕ) (rs : List Run) → length (seen_file version rs) ≡ 6 + length (ranges_bytes (grouped rs))
-seen_length version rs =
-    let a = length-append (head version 2) (ranges_bytes (grouped rs)) in
-    let six : length (head version 2) ≡ 6 = refl in
-    omega arith
-
-pub piece_length : (version : ℕ) (bs : List Run) (os : List Op) (rs : List Run)
-    → length (piece_file version bs os rs) ≡ 10 + length (ranges_bytes (grouped bs)) + length (ranges_bytes (grouped rs)) + length (flat_map (op_bytes version) os)
-piece_length version bs os rs =
-    let a = length-append (head version 3) (ranges_bytes (grouped bs) ++ (ranges_bytes (grouped rs) ++ ops_bytes version os)) in
-    let b = length-append (ranges_bytes (grouped bs)) (ranges_bytes (grouped rs) ++ ops_bytes version os) in
-    let c = length-append (ranges_bytes (grouped rs)) (ops_bytes version os) in
-    let d = length-append (four (length os)) (flat_map (op_bytes version) os) in
-    let four_are : length (four (length os)) ≡ 4 = refl in
-    let six : length (head version 3) ≡ 6 = refl in
-    omega arith
 
 -- ---- files that are too large
 

@@ -1,8 +1,7 @@
 //! Fields, read from the front of a slice. A fault has the number of bytes from its place to the end.
 
-ghost use Rattle.std.specs.Prelude.{◌≡◌, ◌≤◌, ℕ, List, length};
+ghost use Rattle.std.specs.Prelude.{◌≡◌, length};
 ghost use Rattle.std.specs.Int.{w32};
-ghost use Rattle.reg_op.specs.Ids.{Id};
 ghost use Rattle.reg_file.specs.Fields.{Gives, byte_at, cut_at, count_at, group_at, head_at, heading_at, id_at, is_above, is_after, is_unfit, kind_at, note_at, noted_at, number_at, op_kind_at, own_at, pair_at, replica_at, span_at, text_at, version_at};
 
 use crate::fault::{FileFault, Refused, Stop};

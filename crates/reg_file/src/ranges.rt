@@ -1,6 +1,6 @@
 //! Ids, as ranges by replica.
 
-ghost use Rattle.std.specs.Prelude.{◌≡◌, IfOk, IfErr};
+ghost use Rattle.std.specs.Prelude.{IfOk, IfErr};
 ghost use Rattle.reg_file.specs.Readers.{StopsIn};
 ghost use Rattle.reg_file.specs.Reading.{spans, group, groups, ranges};
 ghost use Rattle.reg_file.specs.Steps.{AddsGroup, AddsSpans, IsUnder, IsUpTo, ReadsGroups, ReadsSeen};

@@ -1,6 +1,6 @@
 //! Files of registers, written to vectors and sinks.
 
-ghost use Rattle.std.specs.Prelude.{◌≡◌, ◌≤◌, ◌<◌, ◌^◌, ◌↔◌, ◌⊎◌, length, Err, OnOk, IfOk, IfErr};
+ghost use Rattle.std.specs.Prelude.{◌≡◌, ◌<◌, ◌^◌, ◌↔◌, ◌⊎◌, length, Err, OnOk, IfOk, IfErr};
 ghost use Rattle.reg_file.specs.Layout.{register_file};
 ghost use Rattle.reg_file.specs.Files.{Holds, HoldsIn, IsTooLarge, IsTooLargeIn, IsWriteFault, IsWriteFaultBy, Writes, WritesBy};
 

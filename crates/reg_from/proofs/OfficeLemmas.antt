@@ -1,15 +1,14 @@
 -- What a list of operations by id has of some offices, and what a join with it gains.
-use Rattle.std.proofs.Common.{◌≡◌, ◌⊎◌, ℕ, Bool, true, false, ◌&&◌, ◌||◌, List, [], ◌∷◌, ◌++◌, map, take, drop, None, Result, Ok, Err, sym, ap, ◌∙◌, subst, inl, inr}
+use Rattle.std.proofs.Common.{◌≡◌, ◌⊎◌, ℕ, true, ◌&&◌, ◌||◌, List, [], ◌++◌, map, take, drop, None, Result, Ok, Err, sym, ap, ◌∙◌, subst, inl, inr}
 use Rattle.std.proofs.lemmas.Bool.{or_cases, and_parts, and_from}
 use Rattle.std.proofs.lemmas.List.{take-append-drop, map-append}
 use Rattle.std.proofs.lemmas.List.Folds.{list_any-append}
-use Rattle.std.specs.List.{filter}
 use Rattle.std.specs.Prelude.{IfOk}
 use Rattle.std.specs.Ordering.{eq_by_cmp}
 use Rattle.reg_op.specs.Set as set
 use Rattle.reg_op.specs.Set.{contains, union, contains-from_list, contains-retain, contains-union, same_set}
 use Rattle.reg_op.specs.Ids.{Id, Ids, id_cmp, is_same}
-use Rattle.reg_op.specs.Operations.{Op, Ops, op_cmp, ids, kept, OneBody}
+use Rattle.reg_op.specs.Operations.{Op, Ops, op_cmp, ids}
 use Rattle.reg_op.specs.Contents.{Content, IsContent, state, merged}
 use Rattle.reg_op.specs.Kept.{first_dropped}
 use Rattle.reg_op.specs.Lists.{ById, has, content_at}

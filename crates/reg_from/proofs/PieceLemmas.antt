@@ -2,7 +2,7 @@
 use Rattle.std.proofs.Common.{◌≡◌, true, List, ap, ◌∙◌, sym}
 use Rattle.reg_op.specs.Set as set
 use Rattle.reg_op.specs.Set.{contains}
-use Rattle.reg_op.specs.Ids.{Id, Ids}
+use Rattle.reg_op.specs.Ids.{Ids}
 use Rattle.reg_op.specs.Operations.{Op, op_cmp}
 use Rattle.reg_op.specs.Contents.{Content}
 use Rattle.reg_op.specs.Lists.{has, content_at}

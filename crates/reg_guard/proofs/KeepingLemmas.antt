@@ -6,7 +6,6 @@ use Rattle.byte_out.specs.declared.fault.ReplaceFault.{ReplaceFault}
 use Rattle.byte_out.specs.declared.fault.ReplaceFault.TheVariants as replaced
 use Rattle.byte_office.specs.Noting.{IsUnnotedIf}
 use Rattle.byte_office.specs.Replacing.{IsLate, IsUnreplaced}
-use Rattle.byte_office.specs.declared.fault.NoteFault.{NoteFault}
 use Rattle.byte_office.specs.declared.fault.NoteFault.TheVariants as note
 use Rattle.byte_office.specs.declared.fault.UnreplacedFault.{UnreplacedFault}
 use Rattle.byte_office.specs.declared.fault.UnreplacedFault.TheVariants as unreplaced
@@ -16,11 +15,10 @@ use Rattle.reg_journal.specs.Journal.{Journal}
 use Rattle.reg_journal.specs.Text.{HoldsOffice}
 use Rattle.reg_journal.specs.Adding.{is_changed}
 use Rattle.reg_engine.specs.declared.fault.CliFault.{CliFault}
-use Rattle.reg_engine.specs.declared.fault.CliFault.TheVariants as cli
 use Rattle.reg_engine.specs.Fault.{replace_fault}
-use Rattle.reg_engine.specs.Shelf.{Disks, IsUnready, IsUnput}
+use Rattle.reg_engine.specs.Shelf.{Disks, IsUnput}
 use Rattle.reg_engine.specs.Outputs.{IsUnpublished}
-use Rattle.reg_guard.specs.Keeping.{Notes, IsUnnotedBy, if_changed, IsLateFile, IsUnpublishedAfter, IsUnkeptAfter, unkept_fault}
+use Rattle.reg_guard.specs.Keeping.{Notes, if_changed, IsLateFile, IsUnpublishedAfter, IsUnkeptAfter, unkept_fault}
 
 unready : (f : ReplaceFault) (y : Content) (read : Option (List ℕ)) (bytes : List ℕ) (old new : PlaceState) → Holds bytes y → IsReplaceFault read bytes old new f
     → IsUnpublished y read old new (replace_fault f)
@@ -56,12 +54,6 @@ not_large : (text : Option (List ℕ)) (office noted : PlaceState) → IsUnnoted
 not_large (Some text) office noted h = h
 not_large None office noted h = h
 
-pub unnoted : (t : NoteFault) (a b : Journal) (text : List ℕ) (office noted : PlaceState) → HoldsOffice text b → IsUnnotedIf (if_changed (is_changed a b) text) office noted t
-    → IsUnnotedBy a b office noted t
-unnoted note.NotOpened a b text office noted is h = (text, is, h)
-unnoted note.TooLarge a b text office noted is h = absurd (not_large (if_changed (is_changed a b) text) office noted h)
-unnoted (note.WriteFailed n) a b text office noted is h = (text, is, h)
-
 pub unpublished : (f : UnreplacedFault) (a b : Journal) (y : Content) (read : Option (List ℕ)) (bytes text : List ℕ) (place after office noted : PlaceState)
     → Holds bytes y → HoldsOffice text b → IsUnreplaced read bytes (if_changed (is_changed a b) text) place after office noted f
     → IsUnpublishedAfter a b y read place after office noted (unkept_fault f)
@@ -75,16 +67,6 @@ unpublished (unreplaced.Late f) a b y read bytes text place after office noted i
     by_store f a b y read place after office noted (inr (late f y read bytes place after is h.0, (text, held, h.1)))
 
 -- ---- a shelf
-
--- no frame was made ready, so the office file is unchanged
-pub unready_after : {D : Type 0} (d : Disks D) (a b : Journal) (x y : Content) (old new : D) (office noted : PlaceState) (f : CliFault) → IsUnready d y old new f → noted ≡ office
-    → IsUnkeptAfter d a b x y old new office noted f
-unready_after d a b x y old new office noted (cli.Refused r) h e = absurd h
-unready_after d a b x y old new office noted (cli.File k g) h e = absurd h
-unready_after d a b x y old new office noted (cli.Out g) h e = absurd h
-unready_after d a b x y old new office noted cli.Memory h e = inl (h, e)
-unready_after d a b x y old new office noted (cli.Shelf p) h e = inl (h, e)
-unready_after d a b x y old new office noted (cli.Office t) h e = absurd h
 
 -- the disk failed, after the office file got its text
 pub unput_after : {D : Type 0} (d : Disks D) (a b : Journal) (x y : Content) (old new : D) (office noted : PlaceState) (f : CliFault) → IsUnput d x y old new f → Notes a b office noted

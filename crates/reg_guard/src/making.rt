@@ -2,7 +2,6 @@
 
 ghost use Rattle.std.specs.Prelude.{◌≡◌, IfOk, OnOk, IfErr};
 ghost use Rattle.reg_journal.specs.Journal.{fresh};
-ghost use Rattle.reg_journal.specs.Text.{HoldsOffice};
 ghost use Rattle.reg_guard.specs.Making.{office_of, uuid_line, IsFounded, IsUnfounded};
 
 use byte_io::{Sink, write_all};

@@ -1,6 +1,6 @@
 //! Offices whose numbers rose by more than their operations that came.
 
-ghost use Rattle.std.specs.Prelude.{◌≡◌, ◌++◌, [], ◌∷◌, IfOk, OnOk};
+ghost use Rattle.std.specs.Prelude.{◌≡◌, ◌++◌, [], IfOk, OnOk};
 ghost use Rattle.std.specs.List.{flat_map};
 ghost use Rattle.reg_hidden.specs.Hidden.{rise_of, risen_of, AreRisen};
 

@@ -59,9 +59,6 @@ by_key_push es e q = elim (is_key (key_of e) q) as (λ b. is_key (key_of e) q �
 pub record KnowsAll (all rest : List MadeRow) (es : List StandingEntry) : Type 0 where
   pub completes : (more : List StandingEntry) → AreKnown (map row_seen rest) more → AreKnown (map row_seen all) (es ++ more)
 
-pub knows_none : (all : List MadeRow) → KnowsAll all all []
-knows_none all = record { completes = λ more h. h }
-
 pub knows_more : (all rest others : List MadeRow) (row : MadeRow) (es : List StandingEntry) (e : StandingEntry) → rest ≡ row ∷ others → IsKnown (row_seen row) e → KnowsAll all rest es → KnowsAll all others (es ++ e ∷ [])
 knows_more all rest others row es e at is done = record {
   completes = λ more h.

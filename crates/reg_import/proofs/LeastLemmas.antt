@@ -10,9 +10,6 @@ pub record IsLeastBehind (passes : StandingEntry → Bool) (all front : List Sta
   pub are : all ≡ front ++ behind
   pub is : so_far ≡ least passes behind
 
-pub none_behind : (passes : StandingEntry → Bool) (all : List StandingEntry) → IsLeastBehind passes all all None
-none_behind passes all = record { behind = []; are = sym (append-nil all); is = refl }
-
 module _ (passes : StandingEntry → Bool) (all front others : List StandingEntry) (e : StandingEntry) (so_far : Option Id) (at : front ≡ others ++ e ∷ []) (done : IsLeastBehind passes all front so_far) where
   whole : all ≡ others ++ (e ∷ done.behind)
   whole = done.are ∙ ap (λ l. l ++ done.behind) at ∙ append_assoc others (e ∷ []) done.behind
@@ -30,7 +27,3 @@ module _ (passes : StandingEntry → Bool) (all front others : List StandingEntr
     are = whole;
     is = done.is ∙ (λ j. cond (sym h j) (Some (sooner e.entry (least passes done.behind))) (least passes done.behind));
   }
-
-pub least_is : (passes : StandingEntry → Bool) (all front : List StandingEntry) (so_far : Option Id) → length front ≡ 0 → IsLeastBehind passes all front so_far → so_far ≡ least passes all
-least_is passes all [] so_far e done = done.is ∙ ap (least passes) (sym done.are)
-least_is passes all (x ∷ front) so_far e done = absurd (omega arith)

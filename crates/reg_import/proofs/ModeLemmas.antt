@@ -5,7 +5,6 @@ use Rattle.std.specs.Option.{unwrap_or}
 use Rattle.std.proofs.lemmas.Bool.{true≢false, false_from_ne_true, or_cases, or_parts}
 use Rattle.crs_value.specs.declared.key.Key.{Key}
 use Rattle.wkt_crs.specs.Definition.{IsKeyIn}
-use Rattle.reg_op.specs.Set as set
 use Rattle.reg_op.specs.Set.{contains}
 use Rattle.reg_op.specs.Ids.{Id}
 use Rattle.reg_op.specs.Lists.{has}
@@ -27,6 +26,7 @@ use Rattle.reg_report.proofs.PairLemmas.{it_enters}
 use Rattle.reg_office.specs.Making.{greatest, numbered}
 use Rattle.reg_office.specs.Commands.{Does}
 use Rattle.reg_op.proofs.ItemLemmas.{items_by_id}
+use Rattle.reg_report.proofs.RowLemmas.{row_status}
 use Rattle.reg_office.proofs.LawLemmas.{made_are}
 use Rattle.reg_office.proofs.NumberLemmas.{numbered_on}
 use Rattle.reg_import.specs.declared.standing_entry.StandingEntry.{StandingEntry}
@@ -47,7 +47,7 @@ use Rattle.reg_import.proofs.FreshLemmas.{imports_once}
 use Rattle.reg_import.proofs.ToldLemmas.{up_to}
 use Rattle.reg_import.proofs.TextLemmas.{HasText, comes_ours}
 use Rattle.reg_import.proofs.AgainLemmas.{at_key, finally, ours_stay}
-use Rattle.reg_import.proofs.StandingLemmas.{in_filter, to_filter, one_key, IsOld, standing_is_old, old_is_standing, entered_stands, row_status, row_stands, standing_entry, gone, was_entered, then_retired}
+use Rattle.reg_import.proofs.StandingLemmas.{in_filter, to_filter, one_key, IsOld, standing_is_old, old_is_standing, entered_stands, row_stands, standing_entry, gone, was_entered, then_retired}
 use Rattle.reg_import.proofs.LawLemmas.{are_keyed}
 use Rattle.reg_import.proofs.LastLemmas.{AreKeyed, gone_both, once_gone, old_stay, has_both, enters_there, entered_is}
 
@@ -335,7 +335,7 @@ revise_leaves_one x y replica note texts es ids is ahead keyed are does row come
           let alone = alone_there replica note at (by_key es) texts row.entry row.definition p.0 keyed made in
           let end = enters_there replica note differs.Revise at (by_key es) texts row.entry row.definition p.0 keyed made in
           record {
-            stands = subst (λ st. st ≢ Some Retired) (sym (row_status y.ops (set.items y.ops) row come.there)) (not_off (enters y.ops row.entry) (retires y.ops row.entry) (supersedes y.ops row.entry) up);
+            stands = subst (λ st. st ≢ Some Retired) (sym (row_status y.ops row come.there)) (not_off (enters y.ops row.entry) (retires y.ops row.entry) (supersedes y.ops row.entry) up);
             only = λ k other there stands of_row of_other.
                 let last = finally differs.Revise replica at (by_key es) texts in
                 let mine = subst (λ l. OneText (last l).known) (one_key row.definition alone.key of_row.0 alone.keyed of_row.1 ∙ of_row.2) alone.alone in

@@ -20,15 +20,5 @@ pub length_numbered : (r : List ℕ) (n : ℕ) (note : List ℕ) (bs : List Body
 length_numbered r n note [] = refl
 length_numbered r n note (b ∷ bs) = ap suc (length_numbered r (n + 1) note bs)
 
--- the operation of one effect is appended, followed by those of the remaining effects
-pub numbered_next : (r : List ℕ) (n : ℕ) (note : List ℕ) (b : Body) (bs : List Body) (old new : List Op) → new ≡ old ++ numbered r n note (b ∷ []) → new ++ numbered r (n + 1) note bs ≡ old ++ numbered r n note (b ∷ bs)
-numbered_next r n note b bs old new h = ap (λ os. os ++ numbered r (n + 1) note bs) h ∙ append_assoc old (numbered r n note (b ∷ [])) (numbered r (n + 1) note bs)
-
--- the retirement of one entry is appended, followed by those of the remaining entries
-pub retirement_next : (r : List ℕ) (n : ℕ) (note : List ℕ) (e : StandingEntry) (rest others : List StandingEntry) (old new start : List Op) → rest ≡ e ∷ others → new ≡ old ++ numbered r n note (Retire e.entry ∷ []) → old ++ numbered r n note (retired rest) ≡ start
-    → new ++ numbered r (n + 1) note (retired others) ≡ start
-retirement_next r n note e rest others old new start at h done =
-    numbered_next r n note (Retire e.entry) (retired others) old new h ∙ sym (ap (λ es. old ++ numbered r n note (retired es)) at) ∙ done
-
 pub same_length : (r : List ℕ) (n : ℕ) (note : List ℕ) (bs : List Body) (os : List Op) → os ≡ numbered r n note bs → length os ≡ length bs
 same_length r n note bs os h = ap length h ∙ length_numbered r n note bs

@@ -3,7 +3,7 @@ use Rattle.std.proofs.Common.{◌≡◌, ℕ, ◌+◌, Bool, true, false, not, �
 use Rattle.std.specs.Prelude.{Contains}
 use Rattle.std.specs.List.{list_any, flat_map}
 use Rattle.std.proofs.lemmas.Bool.{true≢false, or_cases}
-use Rattle.std.proofs.lemmas.List.Elements.{Contains-append_cases, Contains-append_left, Contains-append_right}
+use Rattle.std.proofs.lemmas.List.Elements.{Contains-append_left, Contains-append_right}
 use Rattle.crs_part.specs.declared.identifiers.Ident.{Ident}
 use Rattle.crs_part.specs.Slots.{ids_of}
 use Rattle.crs_value.specs.declared.key.Key.{Key}
@@ -37,6 +37,7 @@ use Rattle.reg_report.proofs.EntryLemmas.{row_is_entered}
 use Rattle.reg_office.proofs.LawLemmas.{made_are}
 use Rattle.reg_office.proofs.NumberLemmas.{op_cases}
 use Rattle.reg_report.proofs.PairLemmas.{it_enters}
+use Rattle.reg_report.proofs.RowLemmas.{row_status}
 use Rattle.reg_import.specs.declared.standing_entry.StandingEntry.{StandingEntry}
 use Rattle.reg_import.specs.Known.{IsKnown, AreKnown, AreStanding, stands, key_of}
 use Rattle.reg_import.specs.Again.{HasStanding}
@@ -86,21 +87,6 @@ one_key text k l f g =
 abbrev rows_in : Ops → List Op → List Row
 rows_in s os = flat_map (λ (o : Op). rows_at s o.id o.body) os
 
-at_op : (s : Ops) (e : Id) (b : Body) (r : Row) → Contains (rows_at s e b) r → r.status ≡ status s r.entry
-at_op s e (Enter text) r h = elim (in_cons r _ [] h) [
-  | inl same ↦ subst (λ (q : Row). q.status ≡ status s q.entry) (sym same) refl
-  | inr later ↦ absurd (none_in r later)
-]
-at_op s e (Supersede old newer) r h = absurd (none_in r h)
-at_op s e (Retire entry) r h = absurd (none_in r h)
-
-pub row_status : (s : Ops) (os : List Op) (r : Row) → Contains (rows_in s os) r → r.status ≡ status s r.entry
-row_status s [] r h = absurd (none_in r h)
-row_status s (o ∷ os) r h = elim (Contains-append_cases (rows_at s o.id o.body) (rows_in s os) r h) [
-  | inl here ↦ at_op s o.id o.body r here
-  | inr later ↦ row_status s os r later
-]
-
 abbrev row_of : Ops → Id → List ℕ → Row
 row_of s i text = record { entry = i; definition = text; status = status s i; newer = set.items (newer_of s i) }
 
@@ -145,7 +131,7 @@ pub row_stands : (s : Ops) (r : Row) → Contains (rows s) r → stands r ≡ tr
 row_stands s r c up =
     let p = row_is_entered s r c in
     let there : enters s r.entry ≡ true = it_enters s (entering r.entry r.definition p.0) r.entry r.definition (Enter r.definition) p.1 refl refl refl in
-    record { note = p.0; entered = p.1; stands = not_retired s r.entry there (subst (λ st. not (is_retired st) ≡ true) (row_status s (set.items s) r c) up) }
+    record { note = p.0; entered = p.1; stands = not_retired s r.entry there (subst (λ st. not (is_retired st) ≡ true) (row_status s r c) up) }
 
 -- ---- entries
 

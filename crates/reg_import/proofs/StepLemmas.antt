@@ -140,15 +140,6 @@ pub planned_all : (d : Differs) (r : List ℕ) (first : ℕ) (note : List ℕ) (
 planned_all d r first note start all [] m ts ops e p = record { told = sym (append-nil ts) ∙ p.told; made = sym (append-nil ops) ∙ p.made }
 planned_all d r first note start all (x ∷ rest) m ts ops e p = absurd (omega arith)
 
--- the numbers of all operations fit
-pub imports_fit : (d : Differs) (r : List ℕ) (n : ℕ) (at : At) (texts : List ReadText) → n ≤ 4294967296 → n + length (effects (imports d r n at texts)) ≤ 4294967296
-imports_fit d r n at [] h = omega arith
-imports_fit d r n at (text ∷ texts) h =
-    let t : TextAction = told_at d r n at text in
-    let bs : List Body = bodies_at t at text in
-    let rest = imports_fit d r (n + length bs) (then_at t at text) texts (fits_at d r n at text h) in
-    omega (arith, rest, length-append bs (effects (imports d r (n + length bs) (then_at t at text) texts)))
-
 -- putting an entry into the index appends it to the bucket of its key
 pub entry_put : (kt : KeyText) (b b' : EntriesOfKey) (e : StandingEntry) (m : BTreeMap KeyText EntriesOfKey) (at : At) → key_bytes kt ≡ key_of e → bucket_seen b ≡ at (key_bytes kt) → bucket_seen b' ≡ and_entry e (bucket_seen b)
     → Indexes m (with_key (key_bytes kt) (bucket_seen b') (with_key (key_bytes kt) nothing_there at)) → Indexes m (with_entry e at)

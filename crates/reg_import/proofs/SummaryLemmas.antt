@@ -75,10 +75,6 @@ least_push passes (a ∷ es) e =
 
 -- ---- the least entries with a text, with one more entry
 
-and_false : (b : Bool) → (b && false) ≡ false
-and_false true = refl
-and_false false = refl
-
 module _ (es : List StandingEntry) (e : StandingEntry) (k q : Vec ℕ) (before : Option Found) (v : Found) where
   found_of : (b : Bool) → is_eq (slice_cmp nat_cmp k.items q.items) ≡ b → k.items ≡ e.definition → found_in before ≡ found q.items es
       → (at : Found) → at ≡ found k.items es → v.any ≡ and_least true at.any e.entry → v.valid ≡ and_least e.valid at.valid e.entry
@@ -101,9 +97,6 @@ module _ (es : List StandingEntry) (e : StandingEntry) (k q : Vec ℕ) (before :
             valid = (valid ∙ (λ i. and_least e.valid (here i).valid e.entry)) j;
           }
       by_case false h has = there
-
-pub sums_none : (s : Summary) → s.least ≡ None → ((q : Vec ℕ) → get bytes_cmp s.texts q ≡ None) → SumsUp s []
-sums_none s l n = record { least_of_all = l; each = λ q. ap found_in (n q) }
 
 module _ (s s' : Summary) (es : List StandingEntry) (e : StandingEntry) (k : Vec ℕ) (v : Found) where
   pub sums_more : SumsUp s es → k.items ≡ e.definition → v.any ≡ and_least true (found_in (get bytes_cmp s.texts k)).any e.entry → v.valid ≡ and_least e.valid (found_in (get bytes_cmp s.texts k)).valid e.entry

@@ -12,7 +12,7 @@ use Rattle.reg_op.specs.Ids.{Id, is_before, is_same}
 use Rattle.reg_op.specs.Operations.{Op, Ops, op_cmp, named_in, replaces}
 use Rattle.reg_op.specs.Lists.{has, AllAfter, ById}
 use Rattle.reg_op.specs.declared.operation.OpBody.{OpBody as Body}
-use Rattle.reg_op.specs.declared.operation.OpBody.TheVariants.{Enter, Supersede, Retire}
+use Rattle.reg_op.specs.declared.operation.OpBody.TheVariants.{Supersede, Retire}
 use Rattle.reg_op.specs.Contents.{Content}
 use Rattle.reg_op.proofs.OpLemmas.{op_total, op_exact, is_same_exact, id_total, not_before_itself}
 use Rattle.reg_state.specs.declared.run.Run.{Run}
@@ -44,11 +44,6 @@ one_inside false b c = refl
 one_inside true false c = refl
 one_inside true true true = refl
 one_inside true true false = refl
-
-pub nothing_inside : (a b : Bool) → (a && (b && false)) ≡ false
-nothing_inside false b = refl
-nothing_inside true false = refl
-nothing_inside true true = refl
 
 pub nothing_there : (a : Bool) → (a && false) ≡ false
 nothing_there false = refl
@@ -88,9 +83,6 @@ named_two f b old newer r e h = leasts_same (λ i. names_above f old i || names_
 pub named_one : (f : Journal) (b : Body) (entry : Id) (r : Option Id) → b ≡ Retire entry → Leasts (names_above f entry) r → Leasts (names_any f b) r
 named_one f b entry r e h = leasts_same (names_above f entry) (names_any f b)
     (λ i. one_inside (is_own f.replica i) (nat_lt f.last i.count) (is_same i entry) ∙ (λ k. names_any f (sym e k) i)) r h
-
-pub named_none : (f : Journal) (b : Body) (text : List ℕ) → b ≡ Enter text → Leasts (names_any f b) None
-named_none f b text e i = (λ k. names_any f (e k) i) ∙ nothing_inside (is_own f.replica i) (nat_lt f.last i.count)
 
 -- ---- an operation that the office did not make
 
@@ -266,14 +258,6 @@ told_more f ops rest more o t e so_far i =
     ∙ (λ k. t i || is_told f (e k) i)
     ∙ ap (λ b. t i || b) (told_first (is_own f.replica i) (tells_forged f i o) (list_any (tells_forged f i) more))
     ∙ or_assoc (t i) (is_own f.replica i && tells_forged f i o) (is_told f more i)
-
-pub told_end : (f : Journal) (ops rest : List Op) (t : Id → Bool) → length rest ≡ 0 → ((i : Id) → is_told f ops i ≡ (t i || is_told f rest i)) → (i : Id) → t i ≡ is_told f ops i
-told_end f ops [] t h so_far i = sym (or_false (t i)) ∙ sym (ap (λ b. t i || b) (nothing_there (is_own f.replica i))) ∙ sym (so_far i)
-  where
-    or_false : (a : Bool) → (a || false) ≡ a
-    or_false true = refl
-    or_false false = refl
-told_end f ops (x ∷ rest) t h so_far i = absurd (omega arith)
 
 -- ---- a whole register
 

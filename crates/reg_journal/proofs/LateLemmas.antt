@@ -1,8 +1,7 @@
 -- A command that did not arrive, run again.
-use Rattle.std.proofs.Common.{◌≡◌, ℕ, ◌+◌, ◌<◌, ◌≤◌, Bool, true, false, ◌&&◌, List, [], ◌∷◌, length, drop, get_or, zero, suc, refl, sym, ap, ◌∙◌, subst, arith, nat_lt}
+use Rattle.std.proofs.Common.{◌≡◌, ℕ, ◌+◌, ◌<◌, ◌≤◌, Bool, true, false, ◌&&◌, List, [], ◌∷◌, length, refl, sym, ap, ◌∙◌, subst, arith, nat_lt}
 use Rattle.std.proofs.lemmas.Bool.Decides.{nat_tests}
 use Rattle.std.proofs.lemmas.Bool.{true≢false, and_from, and_parts, false_from_ne_true}
-use Rattle.std.proofs.Math.Seq.{drop-cons}
 use Rattle.std.specs.List.{list_all, list_any}
 use Rattle.std.specs.Cmp.{both_ways, tied_itself}
 use Rattle.std.specs.Ordering.{is_eq}
@@ -70,33 +69,6 @@ module _ (seen : Ids) (y : Content) (r note : List ℕ) (is : IsContent y) where
 
   pub again_at : (es : List Body) (m : ℕ) → 0 < length es → all_late m es ≡ is_again seen y.ops r note es m
   again_at es m h = ap (λ b. b && all_late m es) (sym (of_lt 0 (length es) h))
-
--- ---- one number after another
-
-late_rest : (seen : Ids) (y : Content) (r note : List ℕ) (n : ℕ) (e : Body) (es rest : List Body) → rest ≡ e ∷ es
-    → list_all (is_late seen y.ops) (numbered r n note rest) ≡ (is_late seen y.ops (record { id = id_at r n; body = e; note = note }) && list_all (is_late seen y.ops) (numbered r (n + 1) note es))
-late_rest seen y r note n e es rest h = ap (λ (l : List Body). list_all (is_late seen y.ops) (numbered r n note l)) h
-
-drop_one : (es : List Body) (k : ℕ) (d : Body) → k < length es → drop k es ≡ get_or es k d ∷ drop (k + 1) es
-drop_one es k d h = let up : suc k ≡ k + 1 = omega arith in drop-cons es k d h ∙ ap (λ n. get_or es k d ∷ drop n es) up
-
--- the operation at a place is late, or is not
-pub late_step : (seen : Ids) (y : Content) (r note : List ℕ) (first at : ℕ) (es : List Body) (e : Body) → at < length es → e ≡ get_or es at e
-    → list_all (is_late seen y.ops) (numbered r (first + at) note (drop at es))
-    ≡ (is_late seen y.ops (record { id = id_at r (first + at); body = e; note = note }) && list_all (is_late seen y.ops) (numbered r (first + (at + 1)) note (drop (at + 1) es)))
-late_step seen y r note first at es e h is =
-    let next : first + at + 1 ≡ first + (at + 1) = omega arith in
-    late_rest seen y r note (first + at) e (drop (at + 1) es) (drop at es) (drop_one es at e h ∙ ap (λ b. b ∷ drop (at + 1) es) (sym is))
-    ∙ (λ k. is_late seen y.ops (record { id = id_at r (first + at); body = e; note = note }) && list_all (is_late seen y.ops) (numbered r (next k) note (drop (at + 1) es)))
-
-pub late_end : (seen : Ids) (y : Content) (r note : List ℕ) (n at : ℕ) (es : List Body) → length es ≤ at → list_all (is_late seen y.ops) (numbered r n note (drop at es)) ≡ true
-late_end seen y r note n at es h = ap (λ (l : List Body). list_all (is_late seen y.ops) (numbered r n note l)) (drop_end es at h)
-  where
-    drop_end : (es : List Body) (at : ℕ) → length es ≤ at → drop at es ≡ []
-    drop_end [] zero h = refl
-    drop_end [] (suc at) h = refl
-    drop_end (e ∷ es) zero h = absurd (omega arith)
-    drop_end (e ∷ es) (suc at) h = drop_end es at (omega arith)
 
 -- ---- an operation of a register
 

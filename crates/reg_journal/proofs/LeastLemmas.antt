@@ -46,25 +46,6 @@ only_one t id h only = record { passes = h; least = λ i k. subst (λ j. is_befo
 pub not_one : (t : Id → Bool) (id : Id) → t id ≡ false → ((i : Id) → t i ≡ true → i ≡ id) → Leasts t None
 not_one t id h only = λ i. false_from_ne_true _ (λ k. true≢false (sym (subst (λ j. t j ≡ true) (only i k) k) ∙ h))
 
-none_left : (a b : Bool) → a ≡ false → (a || b) ≡ true → b ≡ true
-none_left true b e h = absurd (true≢false e)
-none_left false b e h = h
-
-none_right : (a b : Bool) → b ≡ false → (a || b) ≡ true → a ≡ true
-none_right true b e h = refl
-none_right false b e h = absurd (true≢false (sym h ∙ e))
-
-neither : (a b : Bool) → a ≡ false → b ≡ false → (a || b) ≡ false
-neither true b e f = e
-neither false b e f = f
-
-pub leasts_right : (t u : Id → Bool) (r : Option Id) → Leasts t None → Leasts u r → Leasts (λ i. t i || u i) r
-leasts_right t u None h k = λ i. neither (t i) (u i) (h i) (k i)
-leasts_right t u (Some id) h k = record { passes = or_right (t id) (u id) k.passes; least = λ i b. k.least i (none_left (t i) (u i) (h i) b) }
-
-pub leasts_left : (t u : Id → Bool) (a : Id) → Leasts t (Some a) → Leasts u None → Leasts (λ i. t i || u i) (Some a)
-leasts_left t u a h k = record { passes = or_left (t a) (u a) h.passes; least = λ i b. h.least i (none_right (t i) (u i) (k i) b) }
-
 -- the first is no later than the second
 pub leasts_first : (t u : Id → Bool) (a b : Id) → Leasts t (Some a) → Leasts u (Some b) → is_before b a ≡ false → Leasts (λ i. t i || u i) (Some a)
 leasts_first t u a b h k first = record {

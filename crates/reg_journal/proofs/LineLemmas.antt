@@ -6,7 +6,7 @@ use Rattle.std.specs.List.{prefix_len}
 use Rattle.std.specs.Char.{is_ascii_digit, digit_value}
 use Rattle.std.specs.Str.Parse.{AllDigits}
 use Rattle.std.proofs.lemmas.Str.Parse.{digit_from_value}
-use Rattle.std.proofs.lemmas.List.{take_at, drop_at, take-append-drop, append_assoc}
+use Rattle.std.proofs.lemmas.List.{take_at, drop_at, append_assoc}
 use Rattle.std.proofs.lemmas.Fmt.{decimal_injective, decimal_is_IsNumeral}
 use Rattle.uuid.specs.Text.{hyphenated_text, lower, parsed}
 use Rattle.uuid.proofs.RoundTrips.{parses_hyphenated}
@@ -44,11 +44,6 @@ line_back text n rest fits e =
     ∙ ap (λ m. drop m (line_text n ++ rest)) (line_long n rest fits)
     ∙ ap (drop (length (decimal n))) (line_is n rest)
     ∙ drop_at (decimal n) (10 ∷ rest) (length (decimal n)) refl
-
--- a text that is cut before a newline
-pub line_whole : (text front back : List ℕ) (k n : ℕ) (rest : List ℕ) → front ≡ take k text → back ≡ drop k text → front ≡ decimal n → back ≡ 10 ∷ rest → text ≡ line_text n ++ rest
-line_whole text front back k n rest f b is with_rest =
-    sym (take-append-drop k text) ∙ (λ j. (sym f ∙ is) j ++ (sym b ∙ with_rest) j) ∙ sym (line_is n rest)
 
 pub no_line : (back : List ℕ) (x : ℕ) (rest : List ℕ) → back ≡ x ∷ rest → length back ≡ 0 → ⊥
 no_line [] x rest e h = cc
@@ -90,14 +85,6 @@ head_long text h rest e =
     let whole : length text ≡ length (hyphenated_text lower h.replica ++ (58 ∷ lines_of h rest)) = ap length (e ∙ head_is h rest) in
     let long = uuid_length h.replica in
     omega (arith, whole, length-append (hyphenated_text lower h.replica) (58 ∷ lines_of h rest), long)
-
--- a text whose front is a UUID, and that goes on with a colon and two lines
-pub head_whole : (text front back lines second : List ℕ) (h : Head) (rest : List ℕ) → front ≡ take 36 text → back ≡ drop 36 text
-    → front ≡ hyphenated_text lower h.replica → back ≡ 58 ∷ lines → lines ≡ line_text h.last ++ second → second ≡ line_text h.stood ++ rest → text ≡ head_text h ++ rest
-head_whole text front back lines second h rest f b is colon first next =
-    sym (take-append-drop 36 text)
-    ∙ (λ k. (sym f ∙ is) k ++ (sym b ∙ colon ∙ ap (λ (t : List ℕ). 58 ∷ t) (first ∙ ap (λ (t : List ℕ). line_text h.last ++ t) next)) k)
-    ∙ sym (head_is h rest)
 
 pub replica_is : (h : Head) → IsHead h → parsed (hyphenated_text lower h.replica) ≡ Some h.replica
 replica_is h is = sym (parses_hyphenated lower h.replica (inl refl) is.long is.bytes)

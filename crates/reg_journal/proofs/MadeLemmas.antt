@@ -6,7 +6,7 @@ use Rattle.std.specs.Cmp.{both_ways, tied_itself}
 use Rattle.std.specs.Ordering.{is_eq, eq_by_cmp}
 use Rattle.std.specs.List.{list_any}
 use Rattle.reg_op.specs.Set as set
-use Rattle.reg_op.specs.Set.{contains, union, contains-union, contains-from_list, contains-retain, same_set}
+use Rattle.reg_op.specs.Set.{contains, union, contains-union, contains-from_list, same_set}
 use Rattle.reg_op.specs.Ids.{Id, id_cmp, is_same, is_before}
 use Rattle.reg_op.specs.Finite.{any}
 use Rattle.reg_op.specs.Operations.{Op, Ops, op_cmp, one, ids, kept, named_in, replaces, replaces_body}

@@ -1,8 +1,7 @@
 -- A text is one office file, and an office file has one text.
-use Rattle.std.proofs.Common.{◌≡◌, ℕ, ◌<◌, ◌≤◌, true, false, List, ◌++◌, length, refl, sym, ap, ◌∙◌, ◌+◌, subst, arith, length-append}
+use Rattle.std.proofs.Common.{◌≡◌, ℕ, ◌<◌, List, ◌++◌, length, refl, sym, ap, ◌∙◌, ◌+◌, subst, arith, length-append}
 use Rattle.reg_op.specs.Contents.{Content}
-use Rattle.reg_file.specs.Files.{Holds, HoldsFirst, IsTooLarge, most}
-use Rattle.reg_file.specs.Reading.{says_first}
+use Rattle.reg_file.specs.Files.{Holds, IsTooLarge, most}
 use Rattle.reg_file.proofs.HoldLemmas.{one_content, one_file}
 use Rattle.reg_journal.specs.declared.head.Head.{Head}
 use Rattle.reg_journal.specs.Journal.{Journal, IsOffice}
@@ -30,18 +29,6 @@ one_office text f g h k =
 
 pub one_text : (f : Journal) (text other : List ℕ) → IsTextOf f text → IsTextOf f other → text ≡ other
 one_text f text other h k = h.whole ∙ ap (λ (b : List ℕ). head_text (head_of f) ++ b) (one_file f.made h.file k.file h.is_file k.is_file) ∙ sym k.whole
-
--- such a file does not say that it is of the first version, as one of that version does
-pub not_first : (bytes : List ℕ) (x : Content) → Holds bytes x → says_first bytes ≡ false
-not_first bytes x h = ap says_first h.bytes_are.whole
-
-pub first_says : (bytes : List ℕ) (x : Content) → HoldsFirst bytes x → says_first bytes ≡ true
-first_says bytes x h = ap says_first h.0.bytes_are.whole
-
--- two lines and a file that a text has, as an office file
-pub is_office_text : (text file : List ℕ) (h : Head) (made : Content) → text ≡ head_text h ++ file → Holds file made → IsOffice (record { replica = h.replica; last = h.last; stood = h.stood; made = made }) → length text ≤ most
-    → HoldsOffice text (record { replica = h.replica; last = h.last; stood = h.stood; made = made })
-is_office_text text file h made e holds office short = record { office = office; text_is = record { file = file; is_file = holds.bytes_are; whole = e }; short = short }
 
 -- a file that is too long is so behind two lines, too
 pub large_file : (f : Journal) → IsTooLarge f.made → IsOfficeTooLarge f

@@ -1,6 +1,6 @@
 //! What an office file has after a command.
 
-ghost use Rattle.std.specs.Prelude.{◌≡◌, ◌≤◌, ◌+◌, ◌-◌, ◌++◌, [], ◌∷◌, IfOk, OnOk};
+ghost use Rattle.std.specs.Prelude.{◌≡◌, ◌+◌, ◌-◌, ◌++◌, [], ◌∷◌, IfOk, OnOk};
 ghost use Rattle.reg_op.specs.Set as set;
 ghost use Rattle.reg_state.specs.Runs.{ids_from};
 ghost use Rattle.reg_office.specs.Making.{greatest};

@@ -11,7 +11,7 @@ ghost use Rattle.reg_journal.specs.Journal.{Journal, IsOffice};
 ghost use Rattle.reg_journal.specs.Text.{HoldsOffice, IsTextOf};
 ghost use Rattle.reg_journal.specs.Standing.{IsHonest};
 ghost use Rattle.reg_journal.specs.Adding.{added};
-ghost use Rattle.reg_journal.specs.Journals.{Copy, World, Event, Makes, Takes, start, base, both, new_ops, happens, after, IsWithin};
+ghost use Rattle.reg_journal.specs.Journals.{Copy, Event, Makes, Takes, start, base, both, new_ops, happens, after, IsWithin};
 
 /// Any number of offices, each with its own UUID and office file, after any list of events. A command may begin with any
 /// register that was ever in a file, and may be stopped between its two writes. Nobody replaces an office file.

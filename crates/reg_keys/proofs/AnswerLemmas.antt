@@ -2,26 +2,16 @@
 use Rattle.std.proofs.Common.{◌≡◌, List, [], ◌∷◌, ◌++◌, length, append_assoc, append-nil, sym, ap, ◌∙◌, subst, inl, inr, ◌⊎◌, arith}
 use Rattle.std.proofs.lemmas.List.Elements.{Contains-append_left, Contains-append_right, Contains-append_cases}
 use Rattle.std.specs.List.{Contains}
-use Rattle.std.specs.Cmp.{IsTotalOrder}
 use Rattle.std.specs.declared.cmp.Ordering.{Ordering}
 use Rattle.std.specs.declared.cmp.Ordering.TheVariants.{Less}
 use Rattle.reg_op.specs.Set.{Ascends}
 use Rattle.reg_op.specs.Ids.{Id, id_cmp}
 use Rattle.reg_op.specs.Rows.{Row}
 use Rattle.reg_report.proofs.ConflictLemmas.{none_in, in_cons, in_head, in_tail}
-use Rattle.reg_keys.specs.Rows.{row_cmp}
+use Rattle.reg_report.specs.Rows.{row_cmp}
 use Rattle.reg_keys.specs.Named.{IsEntry, AreEntries, AddsEntry}
-use Rattle.reg_keys.proofs.OrderLemmas.{first_before, rest_ascends}
-use Rattle.reg_keys.proofs.RowLemmas.{row_total}
-
--- in an ascending list, each element before x is less than x
-pub before_it : {K : Type 0} {R : K → K → Ordering} (o : IsTotalOrder R) (done : List K) (x : K) (others : List K) → Ascends R (done ++ x ∷ others)
-    → (y : K) → Contains done y → R y x ≡ Less
-before_it o [] x others up y h = absurd (none_in y h)
-before_it {R = R} o (d ∷ done) x others up y h = elim (in_cons y d done h) [
-  | inl e ↦ subst (λ k. R k x ≡ Less) (sym e) (first_before o d (done ++ x ∷ others) up x (Contains-append_right done (x ∷ others) x (in_head x others)))
-  | inr later ↦ before_it o done x others (rest_ascends o d (done ++ x ∷ others) up) y later
-]
+use Rattle.reg_report.proofs.OrderLemmas.{before_it}
+use Rattle.reg_report.proofs.RowLemmas.{row_total}
 
 pub put_last : {K : Type 0} (R : K → K → Ordering) (xs : List K) (x : K) → Ascends R xs → ((y : K) → Contains xs y → R y x ≡ Less) → Ascends R (xs ++ x ∷ [])
 put_last R [] x up h = tt

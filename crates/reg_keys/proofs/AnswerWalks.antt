@@ -1,19 +1,15 @@
 -- The first rows that answer a word, one row after another.
-use Rattle.std.proofs.Common.{◌≡◌, ◌≢◌, ◌⊎◌, ℕ, Bool, true, false, List, [], ◌∷◌, ◌++◌, refl, sym, ap, ◌∙◌, subst, inl, inr, append_assoc, append-nil}
-use Rattle.std.proofs.lemmas.Bool.{true≢false, false_from_ne_true}
-use Rattle.std.proofs.lemmas.List.Elements.{Contains-append_left, Contains-append_right, Contains-append_cases, Contains-push_cases}
+use Rattle.std.proofs.Common.{◌≡◌, ◌≢◌, ℕ, true, List, [], ◌∷◌, ◌++◌, refl, sym, ap, ◌∙◌, subst, inl, inr, append_assoc, append-nil}
+use Rattle.std.proofs.lemmas.Bool.{false_from_ne_true}
+use Rattle.std.proofs.lemmas.List.Elements.{Contains-append_right, Contains-append_cases, Contains-push_cases}
 use Rattle.std.specs.List.{Contains}
-use Rattle.std.specs.Ordering.{is_lt, ordering_reverse}
-use Rattle.std.specs.declared.cmp.Ordering.TheVariants.{Less}
 use Rattle.reg_op.specs.Set.{Ascends}
-use Rattle.reg_op.specs.Ids.{Id, id_cmp, is_before}
+use Rattle.reg_op.specs.Ids.{Id, is_before}
 use Rattle.reg_op.specs.Rows.{Row}
-use Rattle.reg_op.proofs.OpLemmas.{id_total, not_before_itself}
-use Rattle.reg_report.proofs.ConflictLemmas.{none_in, in_cons, in_head, in_tail}
-use Rattle.reg_keys.specs.Rows.{row_cmp}
+use Rattle.reg_report.proofs.ConflictLemmas.{none_in, in_cons, in_head}
+use Rattle.reg_report.specs.Rows.{row_cmp}
 use Rattle.reg_keys.specs.Named.{Answers, AllHave, IsLeast, IsOther, IsFirstAnswer, IsFirstOther}
-use Rattle.reg_keys.proofs.OrderLemmas.{first_before, rest_ascends}
-use Rattle.reg_keys.proofs.RowLemmas.{row_total}
+use Rattle.reg_report.proofs.RowLemmas.{in_front}
 
 -- ---- rows that were passed
 
@@ -39,29 +35,6 @@ first_here word all rest others x e p (before, is, each) = (before, is ∙ ap (�
 
 pub other_here : (word text : List ℕ) (all rest others : List Row) (x : Row) → rest ≡ x ∷ others → Answers word x → x.definition ≢ text → Passed (λ r. Answers word r → r.definition ≡ text) all rest → IsFirstOther word text all x.entry
 other_here word text all rest others x e p differs (before, is, each) = (before, x, others, is ∙ ap (λ l. before ++ l) e, p, differs, refl, each)
-
--- ---- the order of the rows
-
-never_back : (a b : Id) → id_cmp a b ≡ Less → is_before b a ≡ false
-never_back a b h = ap is_lt (id_total.antisymm b a ∙ ap ordering_reverse h)
-
-not_itself : (a : Id) → is_before a a ≡ false
-not_itself a = false_from_ne_true _ (not_before_itself a)
-
--- what stands behind a row is not before it
-behind : (front back : List Row) (x : Row) → Ascends row_cmp (front ++ x ∷ back) → (r : Row) → Contains back r → is_before r.entry x.entry ≡ false
-behind [] back x up r h = never_back x.entry r.entry (first_before row_total x back up r h)
-behind (q ∷ front) back x up r h = behind front back x (rest_ascends row_total q (front ++ x ∷ back) up) r h
-
--- what is before a row stands in front of it
-in_front : (front back : List Row) (x : Row) → Ascends row_cmp (front ++ x ∷ back) → (r : Row) → Contains (front ++ x ∷ back) r → is_before r.entry x.entry ≡ true → Contains front r
-in_front front back x up r h b = elim (Contains-append_cases front (x ∷ back) r h) [
-  | inl early ↦ early
-  | inr late ↦ elim (in_cons r x back late) [
-    | inl same ↦ absurd (true≢false (sym b ∙ ap (λ (q : Row). is_before q.entry x.entry) same ∙ not_itself x.entry))
-    | inr later ↦ absurd (true≢false (sym b ∙ behind front back x up r later))
-  ]
-]
 
 -- ---- the least row that answers
 

@@ -21,7 +21,7 @@ use Rattle.reg_report.specs.Conflicts.{KeyBytes, HasKey}
 use Rattle.reg_report.specs.Seen.{row_seen}
 use Rattle.reg_report.proofs.ConflictLemmas.{none_in, in_cons, in_head, in_tail}
 use Rattle.reg_report.proofs.ContenderLemmas.{one_key}
-use Rattle.reg_keys.specs.Rows.{row_cmp}
+use Rattle.reg_report.specs.Rows.{row_cmp}
 use Rattle.reg_keys.specs.declared.fault.KeyFault.{KeyFault}
 use Rattle.reg_keys.specs.declared.fault.KeyFault.TheVariants.{NoEntry, Several, Memory}
 use Rattle.reg_keys.specs.Named.{HasWord, Answers, IsEntry, AreEntries, IsAnsweredBy, AllHave, IsLeast, StandsFor, IsOther, IsObjection}
@@ -30,8 +30,8 @@ use Rattle.reg_keys.specs.Told.{TellsOf, IsUntold}
 use Rattle.reg_keys.specs.declared.index.Spelling.{Spelling}
 use Rattle.reg_keys.specs.declared.index.KeyIndex.{KeyIndex}
 use Rattle.reg_keys.specs.Index.{spelling, IsSpelled, AreChosen, spelling_cmp, rows_in, Holds, IsIndex, AreSpelled}
-use Rattle.reg_keys.proofs.OrderLemmas.{Before, first_before, rest_ascends, put_before}
-use Rattle.reg_keys.proofs.RowLemmas.{row_total}
+use Rattle.reg_report.proofs.OrderLemmas.{Before, first_before, rest_ascends, put_before}
+use Rattle.reg_report.proofs.RowLemmas.{row_total}
 
 -- ---- chosen rows
 
@@ -74,15 +74,6 @@ module _ (P : Row → Type 0) where
   one_less [] some r never e = inr (never, e)
   one_less (x ∷ rs) some r never (inl (q, (rest, e, later))) = inl (q, (rest, e, one_less rs rest r never later))
   one_less (x ∷ rs) some r never (inr (not, later)) = inr (not, one_less rs some r never later)
-
--- what is chosen from chosen rows
-pub chosen_again : (P Q : Row → Type 0) → ((r : Row) → Q r → P r) → (rs some few : List Row) → AreChosen P rs some → AreChosen Q some few → AreChosen Q rs few
-chosen_again P Q sub [] some few e c = subst (λ l. AreChosen Q l few) e c
-chosen_again P Q sub (x ∷ rs) some few (inl (p, (rest, e, later))) c = elim (subst (λ l. AreChosen Q l few) e c) [
-  | inl h ↦ inl (h.0, (h.1.0, h.1.1, chosen_again P Q sub rs rest h.1.0 later h.1.2))
-  | inr h ↦ inr (h.0, chosen_again P Q sub rs rest few later h.1)
-]
-chosen_again P Q sub (x ∷ rs) some few (inr (not, later)) c = inr (λ q. not (sub x q), chosen_again P Q sub rs some few later c)
 
 -- ---- spellings
 

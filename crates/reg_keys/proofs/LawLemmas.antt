@@ -11,7 +11,7 @@ use Rattle.reg_keys.specs.declared.fault.KeyFault.{KeyFault}
 use Rattle.reg_keys.specs.declared.fault.KeyFault.TheVariants.{NoEntry, Several, Memory}
 use Rattle.reg_keys.specs.Named.{HasWord, Answers, AreEntries, IsLeast, IsNotOne, StandsFor, IsObjection, NamesOnly, IsNotOnly, StandFor, Object}
 use Rattle.reg_keys.specs.Told.{TellsOf, IsUntold, TellOf, AreUntold}
-use Rattle.reg_keys.proofs.OrderLemmas.{same_elements}
+use Rattle.reg_report.proofs.OrderLemmas.{same_elements}
 
 -- ---- ids
 

@@ -1,5 +1,3 @@
-pub mod OrderLemmas
-pub mod RowLemmas
 pub mod WordLemmas
 pub mod AnswerLemmas
 pub mod AnswerWalks

@@ -13,24 +13,12 @@ alike_long a b e = sym (length-map a to_ascii_lowercase) ∙ ap length e ∙ len
 abbrev pub Is : List ℕ → List ℕ → List ℕ → Type 0
 Is word authority code = (front : List ℕ) × IsAlike front authority × (word ≡ front ++ 58 ∷ code)
 
-pub too_short : (word authority code : List ℕ) → length word < length authority → IsTrue false ↔ Is word authority code
-too_short word authority code h = (
-  λ k. absurd (true≢false (sym k)),
-  λ (front, a, e). absurd (omega (arith, h, alike_long front authority a, ap length e, length-append front (58 ∷ code))),
-)
-
 -- such a word splits at the length of the authority, before the colon
 front_is : (word authority code front : List ℕ) → IsAlike front authority → word ≡ front ++ 58 ∷ code → take (length authority) word ≡ front
 front_is word authority code front a e = ap (take (length authority)) e ∙ take_at front (58 ∷ code) (length authority) (alike_long front authority a)
 
 back_is : (word authority code front : List ℕ) → IsAlike front authority → word ≡ front ++ 58 ∷ code → drop (length authority) word ≡ 58 ∷ code
 back_is word authority code front a e = ap (drop (length authority)) e ∙ drop_at front (58 ∷ code) (length authority) (alike_long front authority a)
-
-pub no_colon : (word authority code back : List ℕ) → back ≡ drop (length authority) word → ((rest : List ℕ) → back ≡ 58 ∷ rest → ⊥) → IsTrue false ↔ Is word authority code
-no_colon word authority code back b never = (
-  λ k. absurd (true≢false (sym k)),
-  λ (front, a, e). absurd (never code (b ∙ back_is word authority code front a e)),
-)
 
 pub colon : (word authority code front back rest : List ℕ) (r : Bool) → front ≡ take (length authority) word → back ≡ drop (length authority) word → back ≡ 58 ∷ rest
     → IsTrue r ↔ (IsAlike front authority × (rest ≡ code)) → IsTrue r ↔ Is word authority code

@@ -11,7 +11,7 @@ use Rattle.reg_op.specs.Set.{Ascends}
 use Rattle.reg_report.specs.declared.row.Row.{Row as MadeRow}
 use Rattle.reg_report.specs.Conflicts.{KeyBytes, HasKey}
 use Rattle.reg_report.specs.Seen.{row_seen}
-use Rattle.reg_keys.specs.Rows.{row_cmp}
+use Rattle.reg_report.specs.Rows.{row_cmp}
 use Rattle.reg_keys.specs.declared.index.Spelling.{Spelling}
 use Rattle.reg_keys.specs.declared.index.KeyIndex.{KeyIndex}
 

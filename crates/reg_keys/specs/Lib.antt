@@ -1,5 +1,4 @@
 pub mod Words
-pub mod Rows
 pub mod Named
 pub mod Index
 pub mod Told

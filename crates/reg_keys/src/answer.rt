@@ -1,16 +1,15 @@
 //! The entries of a key.
 
-ghost use Rattle.std.specs.Prelude.{◌≡◌, ◌≢◌, ◌↔◌, map, false, Contains, IsTrue, IfOk, OnOk, IfSome, IfNone, Some};
+ghost use Rattle.std.specs.Prelude.{◌≡◌, ◌≢◌, ◌↔◌, map, false, Contains, IsTrue, IfOk, OnOk, IfSome, IfNone};
 ghost use Rattle.reg_op.specs.Rows.{Row as OneRow};
 ghost use Rattle.reg_op.specs.Set.{Ascends};
-ghost use Rattle.reg_op.specs.declared.status.Status.TheVariants.{Retired};
 ghost use Rattle.reg_report.specs.Seen.{row_seen};
-ghost use Rattle.reg_keys.specs.Rows.{row_cmp};
+ghost use Rattle.reg_report.specs.Rows.{row_cmp};
 ghost use Rattle.reg_keys.specs.Named.{HasWord, Answers, AllHave, AreEntries, AddsEntry, IsFirstAnswer, IsFirstOther};
 
 use crate::word::names_key;
-use reg_op::{OpId, Status};
-use reg_report::Row;
+use reg_op::OpId;
+use reg_report::{Row, is_live};
 use std::alloc::{AllocError, Global};
 
 /// Whether the word is the key of the row.
@@ -19,12 +18,6 @@ pub fn has_key(row: &Row, word: &[u8]) -> bool
 {
     let key = row.definition.key();
     names_key(word, key)
-}
-
-fn is_live(row: &Row) -> bool
-    ensures { IsTrue result ↔ ((row_seen row.now).status ≢ Some Retired) }
-{
-    row.status != Status::Retired
 }
 
 // Whether the word is the key of the row, and the entry is not retired.

@@ -8,7 +8,7 @@ ghost use Rattle.reg_op.specs.Rows.{Row as OneRow};
 ghost use Rattle.reg_op.specs.Set.{Ascends};
 ghost use Rattle.reg_report.specs.Conflicts.{bytes_of};
 ghost use Rattle.reg_report.specs.Seen.{row_seen};
-ghost use Rattle.reg_keys.specs.Rows.{row_cmp};
+ghost use Rattle.reg_report.specs.Rows.{row_cmp};
 ghost use Rattle.reg_keys.specs.Index.{spelling, IsSpelled, spelling_cmp, rows_in, Holds, IsIndex, AreSpelled};
 ghost use Rattle.reg_keys.specs.declared.index.Spelling.{Spelling};
 

@@ -16,8 +16,6 @@ pub use every::{WordFault, each_of_words, every_of, every_of_words};
 pub use fault::KeyFault;
 pub use index::{KeyIndex, index_of, rows_of_key, rows_of_word};
 pub use indexed::{each_of_words_in, every_in, every_of_words_in};
-pub use naming::{
-    entries_of, entry_in, entry_of, index_of_register, named, named_one, rows_in_order,
-};
+pub use naming::{entries_of, entry_in, entry_of, index_of_register, named, named_one};
 pub use telling::told;
 pub use word::names_key;

@@ -5,7 +5,7 @@ ghost use Rattle.reg_op.specs.Ids.{Id};
 ghost use Rattle.reg_op.specs.Rows.{Row as OneRow, rows};
 ghost use Rattle.reg_op.specs.Set.{Ascends};
 ghost use Rattle.reg_report.specs.Seen.{row_seen};
-ghost use Rattle.reg_keys.specs.Rows.{row_cmp};
+ghost use Rattle.reg_report.specs.Rows.{row_cmp};
 ghost use Rattle.reg_keys.specs.Index.{IsIndex};
 ghost use Rattle.reg_keys.specs.Named.{StandsFor, IsObjection, NamesOnly, IsNotOnly, IsNotOne, StandFor, Object};
 
@@ -85,21 +85,11 @@ fn only(ids: &[OpId]) -> Result<OpId, KeyFault>
     }
 }
 
-/// A row for each entry, by id.
-pub fn rows_in_order(alloc: Global, register: &Register) -> Result<Vec<Row>, AllocError>
-    ensures rows { IfOk result (λ made. map row_seen made.items ≡ rows register.now.ops) }
-    ensures order { IfOk result (λ made. Ascends row_cmp (map row_seen made.items)) }
-{
-    let _ops = register.ops();
-    let made = rows(alloc, register)?;
-    Ok(made)
-}
-
 /// The index of a register's rows.
 pub fn index_of_register(alloc: Global, register: &Register) -> Result<KeyIndex, AllocError>
     ensures { IfOk result (λ index. IsIndex index (rows register.now.ops)) }
 {
-    let rows = rows_in_order(alloc, register)?;
+    let rows = rows(alloc, register)?;
     let index = index_of(alloc, rows)?;
     Ok(index)
 }
@@ -109,7 +99,7 @@ pub fn named(alloc: Global, register: &Register, words: &[&[u8]]) -> Result<Vec<
     ensures ok { IfOk result (λ ids. StandFor (rows register.now.ops) (map (λ w. w.now) words.now) ids.items) }
     ensures fault { IfErr result (Object (rows register.now.ops) (map (λ w. w.now) words.now)) }
 {
-    let rows = match rows_in_order(alloc, register) {
+    let rows = match rows(alloc, register) {
         Ok(rows) => rows,
         Err(_) => return Err(KeyFault::Memory),
     };
@@ -153,7 +143,7 @@ pub fn named_one(alloc: Global, register: &Register, word: &[u8]) -> Result<OpId
     ensures ok { IfOk result (StandsFor (rows register.now.ops) word.now) }
     ensures fault { IfErr result (IsObjection (rows register.now.ops) word.now) }
 {
-    let rows = match rows_in_order(alloc, register) {
+    let rows = match rows(alloc, register) {
         Ok(rows) => rows,
         Err(_) => return Err(KeyFault::Memory),
     };

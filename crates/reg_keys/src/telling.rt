@@ -5,7 +5,7 @@ ghost use Rattle.reg_op.specs.Ids.{Id};
 ghost use Rattle.reg_op.specs.Rows.{Row as OneRow, rows};
 ghost use Rattle.reg_op.specs.Set.{Ascends};
 ghost use Rattle.reg_report.specs.Seen.{row_seen};
-ghost use Rattle.reg_keys.specs.Rows.{row_cmp};
+ghost use Rattle.reg_report.specs.Rows.{row_cmp};
 ghost use Rattle.reg_keys.specs.Index.{IsIndex};
 ghost use Rattle.reg_keys.specs.Told.{TellsOf, IsUntold, TellOf, AreUntold};
 

@@ -18,8 +18,8 @@ use Rattle.reg_report.proofs.ContenderLemmas.{one_key}
 use Rattle.std.specs.Borrow.{Bor}
 use Rattle.std.specs.BTreeMap.{BTreeMap, get}
 use Rattle.std.specs.Map.{lookup}
-use Rattle.reg_settle.specs.declared.key.KeyText.{KeyText}
-use Rattle.reg_settle.specs.Keeping.{key_bytes, text_cmp}
+use Rattle.reg_report.specs.declared.key.KeyText.{KeyText}
+use Rattle.reg_report.specs.Keys.{key_bytes, text_cmp}
 use Rattle.reg_links.specs.Heirs.{IsFirst, HasText, IsOfKey, HasTexts, HasKeys, entry_in, bytes_cmp}
 
 -- ---- one row more, in front

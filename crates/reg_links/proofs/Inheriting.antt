@@ -11,14 +11,15 @@ use Rattle.reg_op.specs.declared.status.Status.TheVariants.{Retired}
 use Rattle.reg_report.specs.Conflicts.{KeyBytes, HasKey}
 use Rattle.reg_report.proofs.ConflictLemmas.{none_in, in_cons, in_head, in_tail}
 use Rattle.reg_report.proofs.ContenderLemmas.{one_key}
-use Rattle.reg_settle.specs.Settling.{HasRow}
-use Rattle.reg_settle.proofs.Settled.{OneRow}
+use Rattle.reg_report.specs.Rows.{HasRow}
+use Rattle.reg_report.proofs.FoundLemmas.{OneRow}
+use Rattle.reg_report.proofs.RowLemmas.{row_status, row_enters}
 use Rattle.reg_links.specs.declared.link.Link.{Link}
 use Rattle.reg_links.specs.Links.{stands}
 use Rattle.reg_links.specs.Heirs.{IsFirst, HasText, IsOfKey, IsNextTo, Follows, IsHeir}
 use Rattle.reg_links.specs.Passing.{is_cut, is_new, Inherits, PassesTo}
 use Rattle.reg_links.proofs.Firsts.{one_first}
-use Rattle.reg_links.proofs.Rows.{row_status, row_enters, none_retires}
+use Rattle.reg_links.proofs.Rows.{none_retires}
 
 -- ---- heirs are unique
 

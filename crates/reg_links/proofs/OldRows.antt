@@ -4,7 +4,7 @@ use Rattle.std.proofs.lemmas.List.{map_push}
 use Rattle.reg_op.specs.Rows.{Row}
 use Rattle.reg_report.specs.declared.row.Row.{Row as MadeRow}
 use Rattle.reg_report.specs.Seen.{row_seen}
-use Rattle.reg_settle.specs.Settling.{HasRow}
+use Rattle.reg_report.specs.Rows.{HasRow}
 use Rattle.reg_links.specs.declared.link.Link.{Link}
 use Rattle.reg_links.specs.Rows.{HaveRows}
 

@@ -8,13 +8,14 @@ use Rattle.std.specs.declared.cmp.Ordering.{Ordering}
 use Rattle.reg_op.specs.Ids.{Id}
 use Rattle.reg_op.specs.Operations.{Ops}
 use Rattle.reg_op.specs.Rows.{Row, rows}
+use Rattle.reg_op.specs.Set.{Ascends}
 use Rattle.reg_op.specs.declared.status.Status.TheVariants.{Retired}
 use Rattle.reg_report.specs.Conflicts.{KeyBytes, HasKey}
 use Rattle.reg_report.specs.declared.row.Row.{Row as MadeRow}
+use Rattle.reg_report.specs.Rows.{row_cmp}
 use Rattle.reg_report.specs.Seen.{row_seen}
-use Rattle.reg_settle.specs.declared.key.KeyText.{KeyText}
-use Rattle.reg_settle.specs.Keeping.{key_bytes, text_cmp}
-use Rattle.reg_settle.specs.ByEntry.{ByEntry}
+use Rattle.reg_report.specs.declared.key.KeyText.{KeyText}
+use Rattle.reg_report.specs.Keys.{key_bytes, text_cmp}
 use Rattle.reg_links.specs.declared.heir.Heirs.{Heirs}
 use Rattle.reg_links.specs.Links.{stands}
 
@@ -69,6 +70,6 @@ rows_in h = map row_seen h.rows.now
 
 -- the maps of some rows, which ascend by entry
 pub record AreHeirs (h : Heirs) : Type 0 where
-  pub order : ByEntry (rows_in h)
+  pub order : Ascends row_cmp (rows_in h)
   pub texts : HasTexts h.texts (rows_in h)
   pub keys : HasKeys h.keys (rows_in h)

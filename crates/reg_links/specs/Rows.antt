@@ -1,7 +1,7 @@
 -- The rows of superseded entries.
 use Rattle.std.specs.Prelude.{◌≡◌, List, [], ◌∷◌}
 use Rattle.reg_op.specs.Rows.{Row}
-use Rattle.reg_settle.specs.Settling.{HasRow}
+use Rattle.reg_report.specs.Rows.{HasRow}
 use Rattle.reg_links.specs.declared.link.Link.{Link}
 
 -- the row of the old entry of each link, in their order

@@ -3,15 +3,15 @@
 ghost use Rattle.std.specs.Prelude.{◌≡◌, ◌++◌, ◌∷◌, [], List, map, IfOk, OnOk, IfSome, IfNone};
 ghost use Rattle.reg_op.specs.Ids.{Id};
 ghost use Rattle.reg_op.specs.Rows.{Row as OneRow, rows};
+ghost use Rattle.reg_op.specs.Set.{Ascends};
+ghost use Rattle.reg_report.specs.Rows.{row_cmp};
 ghost use Rattle.reg_report.specs.Seen.{row_seen};
 ghost use Rattle.reg_report.specs.Conflicts.{KeyBytes, HasKey};
-ghost use Rattle.reg_settle.specs.ByEntry.{ByEntry};
 ghost use Rattle.reg_links.specs.Heirs.{IsFirst, HasText, IsOfKey, IsNextTo, IsHeir, HasTexts, HasKeys, rows_in, AreHeirs};
 
 use crate::link::stands;
 use reg_op::OpId;
-use reg_report::Row;
-use reg_settle::{KeyText, find_row, is_standing, key_of};
+use reg_report::{KeyText, Row, find_row, is_live, key_of};
 use reg_state::Register;
 use std::alloc::{AllocError, Global};
 use std::collections::BTreeMap;
@@ -28,7 +28,7 @@ pub struct Heirs<'a> {
 fn put_text<'a>(texts: &mut BTreeMap<&'a [u8], &'a Row>, row: &'a Row) -> Result<(), AllocError>
     ensures { (later : List OneRow) → HasTexts texts.old later → OnOk result (HasTexts texts.new (row_seen row.now ∷ later)) }
 {
-    if !is_standing(row) {
+    if !is_live(row) {
         return Ok(());
     }
     let _ = texts.insert(row.definition.as_bytes(), row)?;
@@ -39,7 +39,7 @@ fn put_text<'a>(texts: &mut BTreeMap<&'a [u8], &'a Row>, row: &'a Row) -> Result
 fn put_key<'a>(keys: &mut BTreeMap<KeyText<'a>, &'a Row>, row: &'a Row) -> Result<(), AllocError>
     ensures { (later : List OneRow) → HasKeys keys.old later → OnOk result (HasKeys keys.new (row_seen row.now ∷ later)) }
 {
-    if !is_standing(row) {
+    if !is_live(row) {
         return Ok(());
     }
     let key = key_of(row);
@@ -49,7 +49,7 @@ fn put_key<'a>(keys: &mut BTreeMap<KeyText<'a>, &'a Row>, row: &'a Row) -> Resul
 
 /// The heirs among the rows of a register.
 pub fn heirs_among<'a>(alloc: Global, rows: &'a [Row]) -> Result<Heirs<'a>, AllocError>
-    requires { ByEntry (map row_seen rows.now) }
+    requires { Ascends row_cmp (map row_seen rows.now) }
     ensures rows { IfOk result (λ heirs. rows_in heirs ≡ map row_seen rows.now) }
     ensures heirs { IfOk result AreHeirs }
 {

@@ -14,7 +14,7 @@ use crate::heir::{Heirs, heir_of, heirs_among};
 use crate::link::{Link, stands};
 use reg_office::{Office, OfficeFault};
 use reg_op::{OpBody, OpId};
-use reg_settle::rows_by_entry;
+use reg_report::rows;
 use reg_state::Register;
 use std::alloc::{AllocError, Global};
 
@@ -123,7 +123,7 @@ fn heir_links(alloc: Global, register: &Register, before: &[Link]) -> Result<Vec
     if !some_cut(register, before) {
         return Ok(Vec::new(alloc));
     }
-    let rows = rows_by_entry(alloc, register)?;
+    let rows = rows(alloc, register)?;
     let heirs = heirs_among(alloc, &rows)?;
     let made = heir_links_of(alloc, register, &heirs, before)?;
     Ok(distinct(made))

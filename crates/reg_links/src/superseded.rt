@@ -2,21 +2,20 @@
 
 ghost use Rattle.std.specs.Prelude.{◌≡◌, ◌∷◌, [], ◌++◌, map, IfOk, OnOk};
 ghost use Rattle.reg_op.specs.Rows.{rows};
+ghost use Rattle.reg_op.specs.Set.{Ascends};
+ghost use Rattle.reg_report.specs.Rows.{row_cmp, HasRow};
 ghost use Rattle.reg_report.specs.Seen.{row_seen};
-ghost use Rattle.reg_settle.specs.ByEntry.{ByEntry};
 ghost use Rattle.reg_links.specs.Rows.{HaveRows};
-ghost use Rattle.reg_settle.specs.Settling.{HasRow};
 
 use crate::link::Link;
 use crs_part::TryClone;
-use reg_report::Row;
-use reg_settle::{find_row, rows_by_entry};
+use reg_report::{Row, find_row, rows};
 use reg_state::Register;
 use std::alloc::{AllocError, Global};
 
 // The row of the link's old entry.
 fn old_row(alloc: Global, rows: &[Row], link: &Link) -> Result<Row, AllocError>
-    requires { ByEntry (map row_seen rows.now) }
+    requires { Ascends row_cmp (map row_seen rows.now) }
     ensures { IfOk result (λ row. HasRow (map row_seen rows.now) link.now.old (row_seen row)) }
 {
     let Some(row) = find_row(rows, link.old) else {
@@ -31,7 +30,7 @@ fn old_row(alloc: Global, rows: &[Row], link: &Link) -> Result<Row, AllocError>
 }
 
 fn old_rows_among(alloc: Global, rows: &[Row], links: &[Link]) -> Result<Vec<Row>, AllocError>
-    requires { ByEntry (map row_seen rows.now) }
+    requires { Ascends row_cmp (map row_seen rows.now) }
     ensures { IfOk result (λ made. HaveRows (map row_seen rows.now) links.now (map row_seen made.items)) }
 {
     let mut made = Vec::new(alloc);
@@ -51,7 +50,7 @@ pub fn old_rows(alloc: Global, register: &Register, links: &[Link]) -> Result<Ve
     if links.is_empty() {
         return Ok(Vec::new(alloc));
     }
-    let rows = rows_by_entry(alloc, register)?;
+    let rows = rows(alloc, register)?;
     let made = old_rows_among(alloc, &rows, links)?;
     Ok(made)
 }

@@ -9,21 +9,11 @@ use Rattle.std.specs.Ordering.{nat_cmp, is_eq, match_ordering}
 use Rattle.std.specs.Cmp.Lexicographic.{slice_cmp, same_text, texts_ties}
 use Rattle.reg_lint.specs.Known.{is_same}
 
-pub shuffle : (a b c : Bool) → ((a || b) || c) ≡ (b || (a || c))
-shuffle true true c = refl
-shuffle true false c = refl
-shuffle false true c = refl
-shuffle false false c = refl
-
 swap : (a b c : Bool) → (a || (b || c)) ≡ (b || (a || c))
 swap true true c = refl
 swap true false c = refl
 swap false true c = refl
 swap false false c = refl
-
-pub or_false : (b : Bool) → (b || false) ≡ b
-or_false true = refl
-or_false false = refl
 
 twice : (a c : Bool) → (a || c) ≡ (a || (a || c))
 twice true c = refl

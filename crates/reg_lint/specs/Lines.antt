@@ -2,12 +2,11 @@
 use Rattle.std.specs.Prelude.{◌≡◌, ℕ, Bool, nat_lt, List, [], ◌∷◌, ◌++◌, length, Option, Some, None, codes, if◌then◌else◌}
 use Rattle.csv.specs.Writing.{row_text, default_writer}
 use Rattle.crs_part.specs.Slots.{name_of, ids_of}
-use Rattle.reg_op.specs.Contents.{Content}
 use Rattle.reg_report.specs.Lines.{Sheet, sheet_text, IsReady}
 use Rattle.reg_lint.specs.declared.subject.Subject.{Subject}
 use Rattle.reg_lint.specs.declared.rule.AnyRule.{AnyRule}
 use Rattle.reg_lint.specs.AnyRules.{any_name}
-use Rattle.reg_lint.specs.Subjects.{authority_of, code_of, AreLiveIn}
+use Rattle.reg_lint.specs.Subjects.{authority_of, code_of}
 use Rattle.reg_lint.specs.Details.{details}
 use Rattle.reg_lint.specs.Known.{mark_of}
 
@@ -45,10 +44,6 @@ lint_sheet known rules ss = row_text default_writer lint_header ++ all_lines kno
 -- something follows the header, which has 38 bytes
 abbrev pub has_rows : List ℕ → Bool
 has_rows text = nat_lt 38 (length text)
-
--- the rows of the entries of a content that are not retired
-abbrev pub IsLintText : (List ℕ → Bool) → List AnyRule → Content → List ℕ → Type 0
-IsLintText known rules x text = (ss : List Subject) × AreLiveIn x ss × (text ≡ lint_sheet known rules ss)
 
 -- ---- writing
 

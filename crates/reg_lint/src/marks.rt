@@ -1,6 +1,6 @@
 //! What a row is known again by: all its fields but the entry.
 
-ghost use Rattle.std.specs.Prelude.{◌≡◌, map, IfOk, OnOk};
+ghost use Rattle.std.specs.Prelude.{◌≡◌, map, IfOk};
 ghost use Rattle.csv.specs.Writing.{row_text, default_writer};
 ghost use Rattle.reg_lint.specs.Known.{mark_of};
 

@@ -1,6 +1,6 @@
 //! The texts of a file.
 
-ghost use Rattle.std.specs.Prelude.{◌≡◌, ◌++◌, ◌∷◌, [], decimal, IfOk, IfErr, OnOk, map};
+ghost use Rattle.std.specs.Prelude.{◌≡◌, ◌++◌, ◌∷◌, [], IfOk, IfErr, OnOk, map};
 ghost use Rattle.wkt_crs.specs.Spells.{Spells};
 ghost use Rattle.wkt_texts.specs.Texts.{piece_of};
 ghost use Rattle.reg_lint.specs.declared.subject.Subject.{Subject};

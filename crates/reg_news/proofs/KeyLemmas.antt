@@ -1,6 +1,5 @@
 -- Keys in a set, one key after another, and lists of keys.
-use Rattle.std.proofs.Common.{◌≡◌, ℕ, ◌+◌, ◌<◌, ◌≤◌, Bool, true, false, not, cond, ◌||◌, List, [], ◌∷◌, ◌++◌, map, length, get_or, take, refl, sym, ap, ◌∙◌, subst}
-use Rattle.std.specs.Prelude.{filter}
+use Rattle.std.proofs.Common.{◌≡◌, ℕ, ◌+◌, ◌<◌, ◌≤◌, Bool, true, false, cond, ◌||◌, List, [], ◌∷◌, ◌++◌, map, length, get_or, take, refl, sym, ap, ◌∙◌, subst}
 use Rattle.std.proofs.lemmas.List.{take_all, map_more}
 use Rattle.std.proofs.lemmas.List.Folds.{list_any-append}
 use Rattle.std.specs.List.{list_any, dedup, dedup_from}
@@ -11,8 +10,10 @@ use Rattle.std.specs.Ordering.{is_eq}
 use Rattle.reg_op.specs.Rows.{Row}
 use Rattle.reg_report.specs.Conflicts.{KeyBytes, key_cmp}
 use Rattle.reg_report.proofs.ConflictLemmas.{key_total}
-use Rattle.reg_news.specs.declared.keys.KeyText.{KeyText}
-use Rattle.reg_news.specs.Keys.{same_key, key_bytes, has_key, PutsKey, HasKeys}
+use Rattle.reg_report.specs.declared.key.KeyText.{KeyText}
+use Rattle.reg_report.specs.Keys.{key_bytes}
+use Rattle.reg_disorder.specs.Keys.{PutsKey}
+use Rattle.reg_news.specs.Keys.{same_key, HasKeys}
 
 abbrev pub as_key : List ℕ → Bor (List ℕ)
 as_key t = record { ref_ptr = (0, 0); now = t }
@@ -44,14 +45,6 @@ keys_more ks key old new puts has k =
     turned false false = refl
 
 -- ---- lists
-
-pub filter_map_is : {X Y : Type 0} (f : X → Y) (p : Y → Bool) (xs : List X) → map f (filter (λ x. p (f x)) xs) ≡ filter p (map f xs)
-filter_map_is f p [] = refl
-filter_map_is f p (x ∷ xs) =
-    elim (p (f x)) as (λ b. map f (cond b (x ∷ filter (λ y. p (f y)) xs) (filter (λ y. p (f y)) xs)) ≡ cond b (f x ∷ filter p (map f xs)) (filter p (map f xs))) [
-      | true ↦ ap (λ l. f x ∷ l) (filter_map_is f p xs)
-      | false ↦ filter_map_is f p xs
-    ]
 
 module _ {X Y : Type 0} (f : X → Y) (E : Y → Y → Bool) where
   dedup_map_from : (k : X) (xs : List X) → map f (dedup_from (λ a b. E (f a) (f b)) k xs) ≡ dedup_from E (f k) (map f xs)

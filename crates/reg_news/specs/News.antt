@@ -1,7 +1,6 @@
 -- What a change of a register brings: from the content x to the content y.
 use Rattle.std.specs.Prelude.{◌≡◌, ℕ, Bool, true, false, List, Option, Some, None, map, length}
 use Rattle.std.specs.List.{count_by}
-use Rattle.crs_value.specs.declared.key.Key.{Key}
 use Rattle.reg_op.specs.Set as set
 use Rattle.reg_op.specs.Contents.{Content}
 use Rattle.reg_op.specs.Rows.{Row, rows, awaited}

@@ -3,19 +3,15 @@
 ghost use Rattle.std.specs.Prelude.{◌≡◌, ◌++◌, ◌∷◌, [], not, map, filter, IfOk, OnOk};
 ghost use Rattle.std.specs.List.{dedup, list_any};
 ghost use Rattle.reg_report.specs.Conflicts.{bytes_of};
-ghost use Rattle.reg_news.specs.Keys.{same_key, fresh_keys, key_bytes, has_key, PutsKey, HasKeys};
+ghost use Rattle.reg_report.specs.Keys.{key_bytes};
+ghost use Rattle.reg_disorder.specs.Keys.{has_key, PutsKey};
+ghost use Rattle.reg_news.specs.Keys.{same_key, fresh_keys, HasKeys};
 
 use crs_part::{Text, TryClone};
 use crs_value::Key;
+use reg_report::KeyText;
 use std::alloc::{AllocError, Global};
 use std::collections::BTreeSet;
-
-// The bytes of a key, ordered by the authority and then by the code.
-#[derive(Clone, Copy, PartialEq, Eq, PartialOrd, Ord)]
-pub struct KeyText<'a> {
-    pub authority: &'a [u8],
-    pub code: &'a [u8],
-}
 
 fn text_of(key: &Key) -> KeyText<'_>
     ensures { key_bytes result ≡ bytes_of key.now }

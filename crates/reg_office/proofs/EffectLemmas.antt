@@ -7,6 +7,7 @@ use Rattle.std.proofs.lemmas.List.Elements.{All-cons}
 use Rattle.std.specs.List.{list_any}
 use Rattle.std.specs.Cmp.{tied_itself}
 use Rattle.std.specs.Ordering.{is_eq}
+use mathlib.Core.Bool.{or-false}
 use Rattle.reg_op.specs.Set as set
 use Rattle.reg_op.specs.Ids.{Id, is_same}
 use Rattle.reg_op.specs.Finite.{any}
@@ -45,10 +46,6 @@ record Grown (c : Command) (ops : Ops) (before : List Id) (now : Ops) : Type 0 w
   retired : (e : Id) → retires now e ≡ (retires ops e || retired_by c before e)
   replaced : (e n : Id) → is_replaced_by now e n ≡ (not (retires now e) && (any (supersession e n) ops || superseded_by c before e n))
 
-or_end : (a : Bool) → (a || false) ≡ a
-or_end true = refl
-or_end false = refl
-
 or_assoc : (a b c : Bool) → ((a || b) || c) ≡ (a || (b || c))
 or_assoc true b c = refl
 or_assoc false b c = refl
@@ -64,8 +61,8 @@ and_end false = refl
 grown_none : (c : Command) (ops : Ops) → Grown c ops [] ops
 grown_none c ops = record {
   entered = λ e. refl;
-  retired = λ e. sym (or_end (retires ops e)) ∙ ap (λ b. retires ops e || b) (none c e);
-  replaced = λ e n. ap (λ b. not (retires ops e) && b) (sym (or_end (any (supersession e n) ops)) ∙ ap (λ b. any (supersession e n) ops || b) (none_by c e n));
+  retired = λ e. sym (or-false (retires ops e)) ∙ ap (λ b. retires ops e || b) (none c e);
+  replaced = λ e n. ap (λ b. not (retires ops e) && b) (sym (or-false (any (supersession e n) ops)) ∙ ap (λ b. any (supersession e n) ops || b) (none_by c e n));
 }
   where
     none : (c : Command) (e : Id) → false ≡ retired_by c [] e
@@ -79,7 +76,7 @@ grown_none c ops = record {
 -- ---- one more effect
 
 any-one : (t : Op → Bool) (o : Op) → any t (one o) ≡ t o
-any-one t o = any-from_list t (o ∷ []) ∙ or_end (t o)
+any-one t o = any-from_list t (o ∷ []) ∙ or-false (t o)
 
 any-with : (t : Op → Bool) (s : Ops) (o : Op) → any t (set.union s (one o)) ≡ (any t s || t o)
 any-with t s o = any-union op_total op_exact t s (one o) ∙ ap (λ b. any t s || b) (any-one t o)
@@ -89,14 +86,14 @@ no_enter Retire e = refl
 no_enter (Supersede old) e = refl
 
 retired_more : (c : Command) (before : List Id) (f e : Id) → (retired_by c before e || is_retirement e (effect_of c f)) ≡ retired_by c (before ++ f ∷ []) e
-retired_more Retire before f e = ap (λ b. list_any (is_same e) before || b) (sym (or_end (is_same e f))) ∙ sym (list_any-append (is_same e) before (f ∷ []))
+retired_more Retire before f e = ap (λ b. list_any (is_same e) before || b) (sym (or-false (is_same e f))) ∙ sym (list_any-append (is_same e) before (f ∷ []))
 retired_more (Supersede old) before f e = refl
 
 superseded_more : (c : Command) (before : List Id) (f e n : Id) → (superseded_by c before e n || is_supersession e (is_same n) (effect_of c f)) ≡ superseded_by c (before ++ f ∷ []) e n
 superseded_more Retire before f e n = refl
 superseded_more (Supersede old) before f e n =
     sym (and_or (is_same e old) (list_any (is_same n) before) (is_same n f))
-    ∙ ap (λ b. is_same e old && b) (ap (λ b. list_any (is_same n) before || b) (sym (or_end (is_same n f))) ∙ sym (list_any-append (is_same n) before (f ∷ [])))
+    ∙ ap (λ b. is_same e old && b) (ap (λ b. list_any (is_same n) before || b) (sym (or-false (is_same n f))) ∙ sym (list_any-append (is_same n) before (f ∷ [])))
 
 still_replaced : (r p a b t u : Bool) → (not r && a) ≡ (not r && (t || u)) → (not (r || p) && (a || b)) ≡ (not (r || p) && (t || (u || b)))
 still_replaced true p a b t u h = refl
@@ -114,7 +111,7 @@ module _ (c : Command) (ops : Ops) (before : List Id) (y : Content) (i f : Id) (
 
   grown_more : Grown c ops before y.ops → Grown c ops (before ++ f ∷ []) (with_op y o).ops
   grown_more g = subst (Grown c ops (before ++ f ∷ [])) (sym (kept-union_right y.ops (one o))) (record {
-    entered = λ e. enters-kept s e ∙ any-with (λ p. is_same e p.id && is_enter p.body) y.ops o ∙ (λ k. g.entered e k || (is_same e i && no_enter c f k)) ∙ ap (λ b. enters ops e || b) (and_end (is_same e i)) ∙ or_end (enters ops e);
+    entered = λ e. enters-kept s e ∙ any-with (λ p. is_same e p.id && is_enter p.body) y.ops o ∙ (λ k. g.entered e k || (is_same e i && no_enter c f k)) ∙ ap (λ b. enters ops e || b) (and_end (is_same e i)) ∙ or-false (enters ops e);
     retired = λ e. retires-kept s e ∙ any-with (is_off e) y.ops o ∙ ap (λ b. b || is_retirement e (effect_of c f)) (g.retired e) ∙ or_assoc (retires ops e) (retired_by c before e) (is_retirement e (effect_of c f)) ∙ ap (λ b. retires ops e || b) (retired_more c before f e);
     replaced = λ e n.
         replaced_by-kept s e n
@@ -146,7 +143,7 @@ objection_is (Supersede old) ops before now e g =
     ∙ same_chain old e (enters ops old) (enters ops e) (is_same old e) (retires ops old) (retires ops e) _ (any (supersession old e) ops) (list_any (is_same e) before) refl
   where
     not_retired : (q : Id) → retires now q ≡ retires ops q
-    not_retired q = g.retired q ∙ or_end (retires ops q)
+    not_retired q = g.retired q ∙ or-false (retires ops q)
 
 -- ---- the refusal of several effects
 

@@ -9,7 +9,7 @@ use Rattle.std.specs.Ordering.{is_eq, is_lt, eq_by_cmp, ordering_then, nat_cmp}
 use Rattle.std.specs.declared.cmp.Ordering.TheVariants.{Less}
 use Rattle.std.specs.List.{list_any}
 use Rattle.reg_op.specs.Set as set
-use Rattle.reg_op.specs.Set.{contains, contains-items, contains-empty, contains-from_list, items-from_list}
+use Rattle.reg_op.specs.Set.{contains, contains-items, contains-empty, contains-from_list}
 use Rattle.reg_op.specs.Ids.{Id, Ids, id_cmp, is_before}
 use Rattle.reg_op.specs.Operations.{Op, Ops, op_cmp, ids, one, kept, OneBody}
 use Rattle.reg_op.specs.declared.operation.OpBody.{OpBody as Body}

@@ -35,20 +35,6 @@ fresh_more named at e h is new fresh k d lt = elim (cases_lt k at) [
       subst (λ j. list_any (is_same (get_or named j d)) (take j named) ≡ false) here (subst (λ f. list_any (is_same f) (take at named) ≡ false) (is ∙ same_at named at e d h) new)
 ]
 
-pub repeats_at : (named : List Id) (at : ℕ) (e : Id) → at < length named → e ≡ get_or named at e → list_any (is_same e) (take at named) ≡ true → Fresh named at → IsFirstRepeat named at
-repeats_at named at e h is again fresh = record {
-  within = omega arith;
-  fresh = fresh;
-  again = λ d lt. subst (λ f. list_any (is_same f) (take at named) ≡ true) (is ∙ same_at named at e d h) again;
-}
-
-pub repeats_never : (named : List Id) (at : ℕ) → length named ≤ at → Fresh named at → IsFirstRepeat named (length named)
-repeats_never named at h fresh = record {
-  within = omega arith;
-  fresh = λ k d lt. fresh k d (omega arith);
-  again = λ d lt. absurd (omega arith);
-}
-
 -- the entries before the next index are those before this one, and the entry at it
 pub before_more : (named : List Id) (at : ℕ) (e q : Id) → at < length named → e ≡ get_or named at e → cond (is_same e q) true (list_any (is_same q) (take at named)) ≡ list_any (is_same q) (take (at + 1) named)
 before_more named at e q h is =

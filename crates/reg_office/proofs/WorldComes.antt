@@ -5,7 +5,7 @@ use Rattle.std.specs.Cmp.{tied_itself}
 use Rattle.std.specs.Ordering.{is_eq, eq_by_cmp}
 use Rattle.std.specs.List.{find, slice_get}
 use Rattle.reg_op.specs.Set as set
-use Rattle.reg_op.specs.Set.{contains, union, contains-items, contains-from_list, contains-empty}
+use Rattle.reg_op.specs.Set.{contains, union, contains-items, contains-from_list}
 use Rattle.reg_op.specs.Ids.{Id, Ids, is_same}
 use Rattle.reg_op.specs.Lists.{has}
 use Rattle.reg_op.specs.Operations.{Op, Ops, one, op_cmp, ids, OneBody}

@@ -3,7 +3,7 @@ use Rattle.std.proofs.Common.{◌≡◌, ℕ, true, false, cond, List, [], ◌�
 use Rattle.std.proofs.lemmas.Bool.{true≢false}
 use Rattle.std.specs.Ordering.{is_eq}
 use Rattle.reg_op.specs.Set as set
-use Rattle.reg_op.specs.Set.{contains, union, contains-items, contains-from_list, contains-empty}
+use Rattle.reg_op.specs.Set.{contains}
 use Rattle.reg_op.specs.Operations.{Ops, op_cmp}
 use Rattle.reg_op.specs.Contents.{Content, state, nothing}
 use Rattle.reg_op.proofs.OpLemmas.{op_total}

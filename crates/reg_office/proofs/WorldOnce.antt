@@ -6,7 +6,6 @@ use Rattle.reg_op.specs.Lists.{has}
 use Rattle.reg_op.specs.Operations.{Op}
 use Rattle.reg_op.proofs.OpLemmas.{op_total}
 use Rattle.reg_op.proofs.ContentLemmas.{union_right}
-use Rattle.reg_office.specs.Making.{made}
 use Rattle.reg_office.specs.World.{World, start, Event, Make, Send, SendSeen, SendPiece, SendFirst, Take, TakeOne, Restart, Upgrade, Stop, office_of, Happens, Leads}
 use Rattle.reg_office.specs.Reached.{IsMadeBy, WasMade}
 use Rattle.reg_office.proofs.LawLemmas.{are_once}

@@ -4,7 +4,7 @@ ghost use Rattle.std.specs.Prelude.{◌≡◌, ◌≢◌, ◌↔◌, ◌⊎◌, 
 ghost use Rattle.reg_op.specs.Set as set;
 ghost use Rattle.reg_op.specs.Ids.{Id, Ids};
 ghost use Rattle.reg_op.specs.Lists.{has, ById};
-ghost use Rattle.reg_op.specs.Operations.{Op, op_cmp, one, ids, OneBody, kept};
+ghost use Rattle.reg_op.specs.Operations.{Op, op_cmp, one, ids, OneBody};
 ghost use Rattle.reg_op.specs.declared.operation.OpBody.{OpBody as Body};
 ghost use Rattle.reg_op.specs.declared.operation.OpBody.TheVariants.{Enter};
 ghost use Rattle.reg_op.specs.Contents.{Content, state, merged, joined, IsContent};

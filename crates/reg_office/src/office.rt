@@ -1,8 +1,7 @@
 //! An office: a register, and the UUID under which it makes operations.
 
-ghost use Rattle.std.specs.Prelude.{◌≡◌, ◌+◌, ◌<◌, ◌≤◌, ◌⊎◌, List, [], ◌∷◌, map, length, Ok, Err, OnErr, IfOk, IfErr};
+ghost use Rattle.std.specs.Prelude.{◌≡◌, ◌+◌, ◌<◌, ◌≤◌, ◌⊎◌, [], ◌∷◌, map, length, Ok, Err, OnErr, IfOk, IfErr};
 ghost use Rattle.reg_op.specs.Set as set;
-ghost use Rattle.reg_op.specs.Ids.{Id};
 ghost use Rattle.reg_op.specs.Operations.{Op as Operation, op_cmp};
 ghost use Rattle.reg_op.specs.declared.operation.OpBody.TheVariants as body;
 ghost use Rattle.reg_op.specs.Contents.{state, joined};

@@ -1,9 +1,9 @@
 -- A command that is run again is found.
-use Rattle.std.proofs.Common.{◌≡◌, ◌≢◌, ℕ, ◌<◌, Bool, true, false, not, ◌&&◌, List, [], ◌∷◌, length, nat_lt, refl, sym, ap, ◌∙◌, arith}
+use Rattle.std.proofs.Common.{◌≡◌, ◌≢◌, ℕ, Bool, true, false, not, ◌&&◌, List, [], ◌∷◌, length, nat_lt, refl, ap, ◌∙◌, arith}
 use Rattle.std.proofs.lemmas.Bool.Decides.{nat_tests}
-use Rattle.std.proofs.lemmas.Bool.{true≢false, or_left, or_right}
+use Rattle.std.proofs.lemmas.Bool.{or_left, or_right, and_from}
 use Rattle.std.specs.Cmp.{tied_itself}
-use Rattle.std.specs.List.{list_all, list_any}
+use Rattle.std.specs.List.{list_all}
 use Rattle.std.specs.Ordering.{is_eq, eq_by_cmp}
 use Rattle.reg_op.specs.Set.{contains}
 use Rattle.reg_op.specs.Ids.{Ids}
@@ -17,10 +17,6 @@ use Rattle.reg_office.specs.Making.{numbered}
 use Rattle.reg_journal.specs.Again.{is_late, is_again, still_holds}
 use Rattle.reg_offices.specs.Again.{IsMissed}
 
-both_true : (b c : Bool) → b ≡ true → c ≡ true → (b && c) ≡ true
-both_true true c h k = k
-both_true false c h k = absurd (true≢false (sym h))
-
 head_there : (o : Op) (os : List Op) → has (o ∷ os) o ≡ true
 head_there o os = or_left _ (has os o) (ap is_eq (tied_itself op_total o))
 
@@ -29,15 +25,15 @@ tail_there q o os m = or_right (eq_by_cmp op_cmp q o) _ m
 
 all_pass : (t : Op → Bool) (os : List Op) → ((o : Op) → has os o ≡ true → t o ≡ true) → list_all t os ≡ true
 all_pass t [] f = refl
-all_pass t (o ∷ os) f = both_true (t o) (list_all t os) (f o (head_there o os)) (all_pass t os (λ q m. f q (tail_there q o os m)))
+all_pass t (o ∷ os) f = and_from (t o) (list_all t os) (f o (head_there o os)) (all_pass t os (λ q m. f q (tail_there q o os m)))
 
 late_kept : (all : Ops) (o : Op) → contains all o ≡ true → any (λ p. replaces p o) all ≡ false → contains (kept all) o ≡ true
-late_kept all o there needed = contains-kept all o ∙ both_true (contains all o) (not (any (λ p. replaces p o) all)) there (ap not needed)
+late_kept all o there needed = contains-kept all o ∙ and_from (contains all o) (not (any (λ p. replaces p o) all)) there (ap not needed)
 
 pub missed_late : (seen : Ids) (all : Ops) (o : Op) → IsMissed seen all o → contains all o ≡ true → is_late seen (kept all) o ≡ true
 missed_late seen all o m there =
-    both_true (not (contains seen o.id)) (contains (kept all) o && still_holds (kept all) o.id o.body) (ap not m.unseen)
-    (both_true (contains (kept all) o) (still_holds (kept all) o.id o.body) (late_kept all o there m.needed) m.holds)
+    and_from (not (contains seen o.id)) (contains (kept all) o && still_holds (kept all) o.id o.body) (ap not m.unseen)
+    (and_from (contains (kept all) o) (still_holds (kept all) o.id o.body) (late_kept all o there m.needed) m.holds)
 
 some_there : (es : List Body) → es ≢ [] → nat_lt 0 (length es) ≡ true
 some_there [] h = absurd (h refl)
@@ -46,4 +42,4 @@ some_there (e ∷ es) h = grind (arith, nat_tests)
 pub is_found : (seen : Ids) (ops : Ops) (replica note : List ℕ) (n : ℕ) (es : List Body) → es ≢ []
     → ((o : Op) → has (numbered replica n note es) o ≡ true → is_late seen ops o ≡ true) → is_again seen ops replica note es n ≡ true
 is_found seen ops replica note n es some each =
-    both_true (nat_lt 0 (length es)) (list_all (is_late seen ops) (numbered replica n note es)) (some_there es some) (all_pass (is_late seen ops) (numbered replica n note es) each)
+    and_from (nat_lt 0 (length es)) (list_all (is_late seen ops) (numbered replica n note es)) (some_there es some) (all_pass (is_late seen ops) (numbered replica n note es) each)

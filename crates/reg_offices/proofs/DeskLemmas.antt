@@ -7,7 +7,7 @@ use Rattle.reg_op.specs.Ids.{Id}
 use Rattle.reg_op.specs.Operations.{Op, Ops}
 use Rattle.reg_op.specs.Contents.{Content, state, joined}
 use Rattle.reg_op.specs.Lists.{has}
-use Rattle.reg_journal.specs.Journals.{Copy, World, Event, empty, new_ops, both, base, keeps, takes, takes_at, joins_at, IsWithin}
+use Rattle.reg_journal.specs.Journals.{Copy, World, both, base, keeps, takes, takes_at, joins_at, IsWithin}
 use Rattle.reg_journal.specs.Journals as worlds
 use Rattle.reg_journal.proofs.JournalLemmas.{Invariant, IsCopy, copy_at, copies_join}
 use Rattle.reg_offices.specs.Works.{Command, Work}

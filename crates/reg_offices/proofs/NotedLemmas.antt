@@ -5,7 +5,7 @@ use Rattle.reg_op.specs.Operations.{Op, Ops}
 use Rattle.reg_op.specs.Contents.{state, joined}
 use Rattle.reg_op.specs.Lists.{has}
 use Rattle.reg_op.proofs.ContentLemmas.{union_left, union_right}
-use Rattle.reg_journal.specs.Journals.{Copy, World, Event, Makes, at_office, new_ops, both, base, IsWithin}
+use Rattle.reg_journal.specs.Journals.{Copy, World, Event, Makes, new_ops, both, base, IsWithin}
 use Rattle.reg_journal.specs.Journals as worlds
 use Rattle.reg_journal.proofs.JournalLemmas.{Invariant, IsCopy, always as always_world, copy_at, same_ok, base_is, new_id}
 use Rattle.reg_offices.specs.Works.{Command, Work, work}

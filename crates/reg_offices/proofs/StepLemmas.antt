@@ -6,7 +6,7 @@ use Rattle.reg_op.specs.Set.{contains}
 use Rattle.reg_op.specs.Operations.{Op, Ops}
 use Rattle.reg_op.specs.Lists.{has}
 use Rattle.reg_op.proofs.OpLemmas.{op_total}
-use Rattle.reg_journal.specs.Journals.{Copy, World, Event, Makes, at_office, new_ops, both, base, keeps, takes, takes_at, joins_at, IsWithin}
+use Rattle.reg_journal.specs.Journals.{Copy, World, Event, at_office, new_ops, IsWithin}
 use Rattle.reg_journal.specs.Journals as worlds
 use Rattle.reg_offices.specs.Works.{Command}
 use Rattle.reg_offices.specs.Desk.{Stage, Begins, HasLock, HasFile, HasRead, HasNoted, HasReplaced, HasPrinted, Ended, Desk, at_stage, at_lock, at_path, is_locking, given, comes_to, locking, locks, opens, reads, replaces, prints, stops}

@@ -1,6 +1,6 @@
 -- The least operation that is not kept.
 use Rattle.std.proofs.Common.{◌≡◌, Bool, true, false, not, ◌&&◌, Option, Some, None, refl, sym, ap, ◌∙◌, subst, ◌↔◌}
-use Rattle.std.proofs.lemmas.Bool.{true≢false, false_from_ne_true, true_from_ne_false}
+use Rattle.std.proofs.lemmas.Bool.{true≢false, false_from_ne_true, true_from_ne_false, not-false}
 use Rattle.std.specs.Cmp.{both_ways}
 use Rattle.std.specs.List.{list_any}
 use Rattle.std.specs.Option.{option_map}
@@ -20,12 +20,8 @@ goes s o = any (λ p. replaces p o) s
 goes_dropped : (s : Ops) (o : Op) → contains s o ≡ true → contains (kept s) o ≡ not (goes s o)
 goes_dropped s o h = contains-kept s o ∙ ap (λ b. b && not (goes s o)) h
 
-not_false : (b : Bool) → not b ≡ false → b ≡ true
-not_false true h = cc
-not_false false h = cc
-
 dropped_goes : (s : Ops) (o : Op) → contains s o ≡ true → contains (kept s) o ≡ false → goes s o ≡ true
-dropped_goes s o h d = not_false (goes s o) (sym (goes_dropped s o h) ∙ d)
+dropped_goes s o h d = not-false (goes s o) (sym (goes_dropped s o h) ∙ d)
 
 dropped_found : (s : Ops) → list_any (goes s) (items s) ≡ true → (i : Id) × (first_dropped s ≡ Some i) × IsLeastDropped s i
 dropped_found s h =

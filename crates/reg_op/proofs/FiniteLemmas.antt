@@ -5,6 +5,7 @@ use Rattle.std.specs.List.{list_any}
 use Rattle.std.specs.declared.cmp.Ordering.{Ordering}
 use Rattle.std.specs.Ordering.{eq_by_cmp, is_eq}
 use Rattle.std.specs.Cmp.{IsTotalOrder, both_ways, Equal-is, tied_itself}
+use mathlib.Core.Bool.{or_self, or_self_left}
 use Rattle.reg_op.specs.Set as set
 use Rattle.reg_op.specs.Set.{Set, IsAntisymmetric, contains, items, union, contains-items, contains-union, contains-retain, contains-empty, same_set}
 use Rattle.reg_op.specs.Finite.{any, topmost}
@@ -18,14 +19,6 @@ or_comm false false = refl
 or_assoc : (a b c : Bool) → ((a || b) || c) ≡ (a || (b || c))
 or_assoc true b c = refl
 or_assoc false b c = refl
-
-or_again : (a b : Bool) → (a || (a || b)) ≡ (a || b)
-or_again true b = refl
-or_again false b = refl
-
-or_itself : (a : Bool) → (a || a) ≡ a
-or_itself true = refl
-or_itself false = refl
 
 and_again : (a b : Bool) → ((a && b) && b) ≡ (a && b)
 and_again true true = refl
@@ -91,10 +84,10 @@ module _ {K : Type 0} {R : K → K → Ordering} (o : IsTotalOrder R) (same : Is
 
   pub union_again : (s t : Set R) → union s (union s t) ≡ union s t
   union_again s t = same_set o same _ _ (λ x.
-      contains-union o s (union s t) x ∙ ap (λ b. contains s x || b) (contains-union o s t x) ∙ or_again (contains s x) (contains t x) ∙ sym (contains-union o s t x))
+      contains-union o s (union s t) x ∙ ap (λ b. contains s x || b) (contains-union o s t x) ∙ or_self_left (contains s x) (contains t x) ∙ sym (contains-union o s t x))
 
   pub union_itself : (s : Set R) → union s s ≡ s
-  union_itself s = same_set o same _ _ (λ x. contains-union o s s x ∙ or_itself (contains s x))
+  union_itself s = same_set o same _ _ (λ x. contains-union o s s x ∙ or_self (contains s x))
 
   pub union-empty : (s : Set R) → union set.empty s ≡ s
   union-empty s = same_set o same _ _ (λ x. contains-union o set.empty s x ∙ ap (λ b. b || contains s x) (contains-empty R x))

@@ -1,5 +1,5 @@
 -- The element at a partition point tells whether some element of an ascending list passes.
-use Rattle.std.proofs.Common.{◌≡◌, ℕ, ◌<◌, ◌≤◌, Bool, true, false, List, [], ◌∷◌, length, get_or, slice_get, refl, sym, ap, ◌∙◌, inl, inr, ◌⊎◌, None, arith, suc}
+use Rattle.std.proofs.Common.{◌≡◌, ℕ, ◌<◌, ◌≤◌, Bool, true, false, List, [], ◌∷◌, length, get_or, slice_get, refl, sym, ap, ◌∙◌, inl, inr, ◌⊎◌, arith, suc}
 use Rattle.std.proofs.lemmas.Bool.{true≢false, or_cases, false_from_ne_true}
 use Rattle.std.proofs.lemmas.List.Folds.{list_any_at}
 use Rattle.std.proofs.lemmas.Option.{slice_get_cases}
@@ -49,6 +49,3 @@ module _ {X : Type 0} (below t : X → Bool) (Le : X → X → Type 0) (xs : Lis
             true≢false (sym (point.0 r.1 r.0 (omega arith) (omega (arith, r.2, w.0))) ∙ from _ (ap t (r.4 r.0) ∙ r.3)))
             ∙ sym (ap (passes t) w.1)
       ]
-
-pub slice_get_past : {X : Type 0} (xs : List X) (i : ℕ) → length xs ≤ i → slice_get xs i ≡ None
-slice_get_past xs i h = elim (slice_get_cases xs i).1 [ inl w ↦ absurd (omega (arith, w.1)) | inr w ↦ w.1 ]

@@ -9,7 +9,7 @@ use Rattle.std.specs.declared.cmp.Ordering.TheVariants.{Less, Equal, Greater}
 use Rattle.std.specs.Ordering.{is_lt, eq_by_cmp}
 use Rattle.std.specs.Cmp.{IsTotalOrder, Equal-is}
 use Rattle.reg_op.specs.Set as set
-use Rattle.reg_op.specs.Set.{Set, IsAntisymmetric, Ascends, items, contains, retain, contains-items, contains-retain, contains-from_list, items-from_list, same_set}
+use Rattle.reg_op.specs.Set.{Set, IsAntisymmetric, Ascends, items, retain, contains-items, contains-retain, contains-from_list, items-from_list, same_set}
 
 pub T_true : (b : Bool) → T b → b ≡ true
 T_true true h = refl

@@ -1,6 +1,6 @@
 //! Ids of operations: a UUID and a count.
 
-ghost use Rattle.std.specs.Prelude.{◌≡◌, ◌<◌, ◌++◌, ℕ, IsTrue, IfSome, IfNone, IsSome, OnOk, OnErr, ◌↔◌, is_some, length, All};
+ghost use Rattle.std.specs.Prelude.{◌≡◌, ◌<◌, ◌++◌, ℕ, IsTrue, IfSome, IsSome, OnOk, OnErr, ◌↔◌, is_some, length, All};
 ghost use Rattle.std.specs.Ordering.{is_eq, is_lt};
 ghost use Rattle.reg_op.specs.Ids.{Id, IsId, id_cmp};
 ghost use Rattle.reg_op.specs.Text.{printed, Spells};

@@ -3,8 +3,8 @@ use Rattle.std.proofs.Common.{◌≡◌, ◌==◌, true, false, List, [], ◌∷
 use Rattle.std.specs.Borrow.{Bor}
 use Rattle.std.specs.List.{flat_map}
 use Rattle.std.proofs.lemmas.Grind.{flat_map-append}
-use Rattle.html_text.specs.Pieces.{Piece, html, Appends}
-use Rattle.html_text.proofs.JoinLemmas.{html-append}
+use Rattle.html_page.specs.Pieces.{Piece, html, Appends}
+use Rattle.html_page.proofs.JoinLemmas.{html-append}
 use Rattle.reg_page.specs.declared.block.Block.{Block}
 use Rattle.reg_page.specs.Blocks.{Setting, pieces_of, bytes_of, Lists}
 

@@ -1,8 +1,8 @@
 -- What is appended for an operation on an entry, for two entries in conflict, and for a link.
 use Rattle.std.proofs.Common.{◌≡◌, ℕ, true, false, List, [], ◌∷◌, Option, Some, None, sym, append-nil}
 use Rattle.std.specs.List.{flat_map}
-use Rattle.html_text.specs.Pieces.{Piece, Appends}
-use Rattle.html_text.proofs.JoinLemmas.{nothing}
+use Rattle.html_page.specs.Pieces.{Piece, Appends}
+use Rattle.html_page.proofs.JoinLemmas.{nothing}
 use Rattle.html_page.specs.Shown.{Entered, Awaited, SupersededBy, RetiredBy}
 use Rattle.html_page.specs.Templates.{link, event, by, pair}
 use Rattle.reg_op.specs.Ids.{Id, is_same}
@@ -26,14 +26,6 @@ superseding_other named described e old newer o page is other = rw (is, other) (
 pub retiring_other : (named : List ℕ → List ℕ) (described : List Described) (e entry : Id) (o : Op) (page : List ℕ) → o.body ≡ Retire entry → is_same entry e ≡ false → Appends page page (flat_map (event named) (events_in described e o))
 retiring_other named described e entry o page is other = rw (is, other) (nothing page)
 
-pub superseding_shows : (named : List ℕ → List ℕ) (described : List Described) (e old newer : Id) (o : Op) {start end : List ℕ} → o.body ≡ Supersede old newer → is_same old e ≡ true
-    → Appends start end (event named (SupersededBy (link_to described newer) (printed o.id) o.note)) → Appends start end (flat_map (event named) (events_in described e o))
-superseding_shows named described e old newer o is same shown = rw (is, same) (alone (event named) (SupersededBy (link_to described newer) (printed o.id) o.note) shown)
-
-pub retiring_shows : (named : List ℕ → List ℕ) (described : List Described) (e entry : Id) (o : Op) {start end : List ℕ} → o.body ≡ Retire entry → is_same entry e ≡ true
-    → Appends start end (event named (RetiredBy (printed o.id) o.note)) → Appends start end (flat_map (event named) (events_in described e o))
-retiring_shows named described e entry o is same shown = rw (is, same) (alone (event named) (RetiredBy (printed o.id) o.note) shown)
-
 pub entering_leads : (named : List ℕ → List ℕ) (described : List Described) (e : Id) (o : Op) (d page : List ℕ) → o.body ≡ Enter d → Appends page page (flat_map (by named) (links_in described e o))
 entering_leads named described e o d page is = rw is (nothing page)
 
@@ -42,10 +34,6 @@ retiring_leads named described e entry o page is = rw is (nothing page)
 
 pub other_leads : (named : List ℕ → List ℕ) (described : List Described) (e old newer : Id) (o : Op) (page : List ℕ) → o.body ≡ Supersede old newer → is_same old e ≡ false → Appends page page (flat_map (by named) (links_in described e o))
 other_leads named described e old newer o page is other = rw (is, other) (nothing page)
-
-pub superseding_leads : (named : List ℕ → List ℕ) (described : List Described) (e old newer : Id) (o : Op) {start end : List ℕ} → o.body ≡ Supersede old newer → is_same old e ≡ true
-    → Appends start end (by named (link_to described newer)) → Appends start end (flat_map (by named) (links_in described e o))
-superseding_leads named described e old newer o is same shown = rw (is, same) (alone (by named) (link_to described newer) shown)
 
 pub no_pair : (named : List ℕ → List ℕ) (one other : Option Described) (page : List ℕ) → (one ≡ None) → Appends page page (flat_map (pair named) (pairs_of one other))
 no_pair named one other page is = rw is (nothing page)

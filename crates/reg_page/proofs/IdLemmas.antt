@@ -14,7 +14,7 @@ use Rattle.reg_op.specs.Status.{is_enter}
 use Rattle.reg_op.proofs.OpLemmas.{id_total}
 use Rattle.reg_op.proofs.SetLemmas.{less}
 use Rattle.reg_report.proofs.ConflictLemmas.{none_in, in_cons, in_head, in_tail}
-use Rattle.reg_keys.proofs.OrderLemmas.{first_before, rest_ascends, put_before}
+use Rattle.reg_report.proofs.OrderLemmas.{first_before, rest_ascends, put_before}
 
 abbrev pub ids_in : List Op → List Id
 ids_in os = map (λ (o : Op). o.id) (filter (λ (o : Op). is_enter o.body) os)

@@ -4,8 +4,8 @@ use Rattle.std.proofs.lemmas.List.{take_more, map-append}
 use Rattle.std.specs.List.{flat_map}
 use Rattle.std.proofs.lemmas.Grind.{flat_map-append}
 use Rattle.std.proofs.lemmas.List.Folds.{flat_map-map}
-use Rattle.html_text.specs.Pieces.{Piece, html, Appends}
-use Rattle.html_text.proofs.JoinLemmas.{Leads, leads_done, next}
+use Rattle.html_page.specs.Pieces.{Piece, html, Appends}
+use Rattle.html_page.proofs.JoinLemmas.{Leads, leads_done, next}
 
 pub flat_map-flat_map : {A B C : Type 0} (f : B → List C) (g : A → List B) (xs : List A) → flat_map f (flat_map g xs) ≡ flat_map (λ x. flat_map f (g x)) xs
 flat_map-flat_map f g [] = refl

@@ -1,20 +1,15 @@
 -- Codes that are numbers are in the order of their values.
-use Rattle.std.proofs.Common.{◌≡◌, ℕ, suc, ◌+◌, ◌-◌, ◌*◌, ◌<◌, ◌≤◌, ◌==◌, Bool, true, false, ◌&&◌, List, [], ◌∷◌, length, nat_le, nat_lt, cond, if◌then◌else◌, refl, sym, ap, ◌∙◌, arith}
+use Rattle.std.proofs.Common.{◌≡◌, ℕ, suc, ◌+◌, ◌-◌, ◌*◌, ◌<◌, ◌≤◌, ◌==◌, Bool, true, false, List, [], ◌∷◌, length, nat_le, nat_lt, cond, if◌then◌else◌, refl, sym, ap, ◌∙◌, arith}
 use Rattle.std.proofs.lemmas.Bool.Decides.{nat_tests}
-use Rattle.std.proofs.lemmas.Bool.{eqb-true}
-use Rattle.std.specs.List.{list_all}
+use Rattle.std.proofs.lemmas.Bool.{eqb-true, and_parts}
 use Rattle.std.specs.declared.cmp.Ordering.{Ordering}
 use Rattle.std.specs.declared.cmp.Ordering.TheVariants.{Less, Equal, Greater}
-use Rattle.std.specs.Ordering.{nat_cmp, ordering_then, MatchOrdering}
+use Rattle.std.specs.Ordering.{nat_cmp, ordering_then}
 use Rattle.std.specs.Cmp.Lexicographic.{slice_cmp}
-use Rattle.reg_page.specs.Codes.{is_digit, is_number, without_zeros, class_of, digits_of, number_after, number_of, code_cmp}
-
-both : (a b : Bool) → (a && b) ≡ true → (a ≡ true) × (b ≡ true)
-both true b e = (refl, e)
-both false b e = absurd cc
+use Rattle.reg_page.specs.Codes.{is_digit, is_number, without_zeros, number_after, number_of, code_cmp}
 
 digit_bounds : (b : ℕ) → is_digit b ≡ true → (48 ≤ b) × (b ≤ 57)
-digit_bounds b e = let parts = both (nat_le 48 b) (nat_le b 57) e in (grind (arith, nat_tests, parts.0), grind (arith, nat_tests, parts.1))
+digit_bounds b e = let parts = and_parts (nat_le 48 b) (nat_le b 57) e in (grind (arith, nat_tests, parts.0), grind (arith, nat_tests, parts.1))
 
 -- of two lists of as many digits, the one after the lesser number writes the lesser number
 after_less : (n m : ℕ) (ds es : List ℕ) → is_number ds ≡ true → is_number es ≡ true → length ds ≡ length es → n < m → number_after n ds < number_after m es
@@ -22,8 +17,8 @@ after_less n m [] [] p q e h = h
 after_less n m [] (b ∷ es) p q e h = absurd (omega arith)
 after_less n m (a ∷ ds) [] p q e h = absurd (omega arith)
 after_less n m (a ∷ ds) (b ∷ es) p q e h =
-    let first = both (is_digit a) (is_number ds) p in
-    let second = both (is_digit b) (is_number es) q in
+    let first = and_parts (is_digit a) (is_number ds) p in
+    let second = and_parts (is_digit b) (is_number es) q in
     let low = digit_bounds a first.0 in
     let high = digit_bounds b second.0 in
     after_less (n * 10 + (a - 48)) (m * 10 + (b - 48)) ds es first.1 second.1 (omega arith) (omega (arith, low.0, low.1, high.0, high.1))
@@ -36,7 +31,7 @@ fewer n ds (b ∷ es) p q h some =
       | true ↦ λ e. after_less 0 n ds (b ∷ es) p q (eqb-true (length ds) (suc (length es)) e) some
       | false ↦ λ e.
           let less : length ds ≤ length es = grind (arith, nat_tests) in
-          fewer (n * 10 + (b - 48)) ds es p (both (is_digit b) (is_number es) q).1 less (omega arith)
+          fewer (n * 10 + (b - 48)) ds es p (and_parts (is_digit b) (is_number es) q).1 less (omega arith)
     ] refl
 
 abbrev Ordered : Ordering → ℕ → ℕ → Type 0
@@ -69,8 +64,8 @@ ordered n [] [] p q e = refl
 ordered n [] (b ∷ es) p q e = absurd (omega arith)
 ordered n (a ∷ ds) [] p q e = absurd (omega arith)
 ordered n (a ∷ ds) (b ∷ es) p q e =
-    let first = both (is_digit a) (is_number ds) p in
-    let second = both (is_digit b) (is_number es) q in
+    let first = and_parts (is_digit a) (is_number ds) p in
+    let second = and_parts (is_digit b) (is_number es) q in
     let rest : length ds ≡ length es = omega arith in
     by_first n a b ds es (nat_lt a b) (a == b) refl refl first.0 second.0 first.1 second.1 rest (λ m. ordered m ds es first.1 second.1 rest)
 
@@ -90,13 +85,13 @@ digits_at b bs false p q = p
 
 still_digits : (bs : List ℕ) → is_number bs ≡ true → is_number (without_zeros bs) ≡ true
 still_digits [] p = refl
-still_digits (b ∷ bs) p = digits_at b bs (b == 48) p (still_digits bs (both (is_digit b) (is_number bs) p).1)
+still_digits (b ∷ bs) p = digits_at b bs (b == 48) p (still_digits bs (and_parts (is_digit b) (is_number bs) p).1)
 
 longer_at : (ds bs : List ℕ) (b : ℕ) (t : Bool) → (b == 48) ≡ t → is_number ds ≡ true → is_number (b ∷ bs) ≡ true → (length ds < length (without_zeros bs) → number_of ds < number_of (without_zeros bs))
     → length ds < length (if t then without_zeros bs else b ∷ bs) → number_of ds < number_of (if t then without_zeros bs else b ∷ bs)
 longer_at ds bs b true is p q later h = later h
 longer_at ds bs b false is p q later h =
-    let parts = both (is_digit b) (is_number bs) q in
+    let parts = and_parts (is_digit b) (is_number bs) q in
     let bounds = digit_bounds b parts.0 in
     let some : 48 < b = grind (arith, nat_tests, bounds.0) in
     fewer (0 * 10 + (b - 48)) ds bs p parts.1 (omega arith) (omega arith)
@@ -104,7 +99,7 @@ longer_at ds bs b false is p q later h =
 -- fewer digits write a lesser number than others without a zero at their front
 longer : (ds bs : List ℕ) → is_number ds ≡ true → is_number bs ≡ true → length ds < length (without_zeros bs) → number_of ds < number_of (without_zeros bs)
 longer ds [] p q h = absurd (omega arith)
-longer ds (b ∷ bs) p q h = longer_at ds bs b (b == 48) refl p q (longer ds bs p (both (is_digit b) (is_number bs) q).1) h
+longer ds (b ∷ bs) p q h = longer_at ds bs b (b == 48) refl p q (longer ds bs p (and_parts (is_digit b) (is_number bs) q).1) h
 
 -- ---- the order of codes
 

@@ -14,7 +14,7 @@ use Rattle.std.specs.Ordering.{nat_cmp, ordering_then, is_lt, is_eq}
 use Rattle.std.specs.declared.cmp.Ordering.{Ordering}
 use Rattle.std.specs.declared.cmp.Ordering.TheVariants.{Less, Equal, Greater}
 use Rattle.office_names.specs.declared.names.Name.{Name}
-use Rattle.html_text.specs.Pieces.{html}
+use Rattle.html_page.specs.Pieces.{html}
 use Rattle.html_page.specs.Shown as shown
 use Rattle.html_page.specs.Templates.{page}
 use Rattle.html_page.specs.Words.{compared}
@@ -49,7 +49,7 @@ use Rattle.reg_report.specs.Conflicts.{Contested}
 use Rattle.reg_report.proofs.ConflictLemmas.{in_head, in_tail, in_map, from_map}
 use Rattle.reg_report.proofs.OneLemmas as contested
 use Rattle.reg_report.proofs.GapLists as missing
-use Rattle.reg_keys.proofs.OrderLemmas.{same_elements}
+use Rattle.reg_report.proofs.OrderLemmas.{same_elements}
 use Rattle.reg_lint.specs.Questions.{questions_of}
 use Rattle.crs_sense.specs.declared.rule.Rule.{Rule}
 use Rattle.reg_page.specs.Kinds.{areas_in}

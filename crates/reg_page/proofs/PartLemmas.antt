@@ -7,8 +7,8 @@ use Rattle.std.proofs.lemmas.List.{take_more, map-append}
 use Rattle.std.proofs.lemmas.List.Elements.{filter-append}
 use Rattle.reg_page.specs.declared.described.Described.{Described}
 use Rattle.reg_page.specs.Descriptions.{at}
-use Rattle.html_text.specs.Pieces.{Piece, html, Appends}
-use Rattle.html_text.proofs.JoinLemmas.{html-append}
+use Rattle.html_page.specs.Pieces.{Piece, html, Appends}
+use Rattle.html_page.proofs.JoinLemmas.{html-append}
 use Rattle.html_page.specs.Templates.{pair}
 use Rattle.reg_op.specs.Ids.{Id}
 use Rattle.reg_page.specs.Page.{described_at, pairs_of, pairs_from}

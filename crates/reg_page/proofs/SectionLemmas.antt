@@ -2,8 +2,8 @@
 use Rattle.std.proofs.Common.{◌≡◌, ℕ, ◌==◌, true, false, List, [], ◌∷◌, map, length, arith}
 use Rattle.std.proofs.lemmas.Bool.{true≢false, eqb-true, false_from_ne_true}
 use Rattle.std.specs.List.{flat_map}
-use Rattle.html_text.specs.Pieces.{Piece, Markup, Appends}
-use Rattle.html_text.proofs.JoinLemmas.{next, nothing}
+use Rattle.html_page.specs.Pieces.{Piece, Markup, Appends}
+use Rattle.html_page.proofs.JoinLemmas.{next, nothing}
 use Rattle.html_page.specs.Templates.{section}
 
 never : {T : Type 0} (x : T) (xs : List T) → (length (x ∷ xs) == 0) ≡ true → ⊥

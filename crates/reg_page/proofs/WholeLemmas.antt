@@ -2,8 +2,8 @@
 use Rattle.std.proofs.Common.{◌≡◌, ℕ, true, false, List, [], ◌∷◌, ◌++◌, map, filter, append_assoc, refl, sym, ap, ◌∙◌}
 use Rattle.std.specs.List.{flat_map}
 use Rattle.std.specs.List.Sorted.{IsPermutation}
-use Rattle.html_text.specs.Pieces.{Piece, Markup, html, Appends}
-use Rattle.html_text.proofs.JoinLemmas.{next, html-append}
+use Rattle.html_page.specs.Pieces.{Piece, Markup, html, Appends}
+use Rattle.html_page.proofs.JoinLemmas.{next, html-append}
 use Rattle.html_page.specs.declared.markup.TheConstants.{AFTER_FIGURES, CONFLICTS_START, CONFLICTS_END, AWAITED_START, AWAITED_END, GAPS_START, GAPS_END, ENTRIES_START, ENTRIES_END, RETIRED_START, RETIRED_END}
 use Rattle.html_page.specs.Templates.{head, figures, section, conflict, awaited as waiting, gap, entry, end, page}
 use Rattle.crs_sense.specs.declared.rule.Rule.{Rule}

@@ -1,7 +1,7 @@
 -- The page in blocks. All blocks are listed before the first byte of the page is written; then each is made and written in turn.
 use Rattle.std.specs.Prelude.{ℕ, Bool, List, [], ◌∷◌, ◌++◌, filter, map}
 use Rattle.std.specs.List.{flat_map}
-use Rattle.html_text.specs.Pieces.{Piece, Markup, html, Appends}
+use Rattle.html_page.specs.Pieces.{Piece, Markup, html, Appends}
 use Rattle.html_page.specs.Shown as shown
 use Rattle.html_page.specs.Templates.{conflict_start, pair, section, awaited, gap, entry, end}
 use Rattle.html_page.specs.declared.markup.TheConstants.{AWAITED_START, AWAITED_END, GAPS_START, GAPS_END}

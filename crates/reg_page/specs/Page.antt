@@ -5,7 +5,7 @@ use Rattle.std.specs.List.{flat_map, count_by}
 use Rattle.uuid.specs.Text.{hyphenated_text, lower}
 use Rattle.office_names.specs.declared.names.Name.{Name}
 use Rattle.office_names.specs.Shown as office
-use Rattle.html_text.specs.Pieces.{html}
+use Rattle.html_page.specs.Pieces.{html}
 use Rattle.html_page.specs.declared.head.Figures.{Figures}
 use Rattle.html_page.specs.declared.standing.Standing.{Standing}
 use Rattle.html_page.specs.declared.standing.Standing.TheVariants as standing

@@ -1,7 +1,7 @@
 -- The page in three parts.
 use Rattle.std.specs.Prelude.{ℕ, List, [], ◌∷◌, ◌++◌}
 use Rattle.std.specs.List.{flat_map}
-use Rattle.html_text.specs.Pieces.{Piece, Markup}
+use Rattle.html_page.specs.Pieces.{Piece, Markup}
 use Rattle.html_page.specs.declared.head.Figures.{Figures}
 use Rattle.html_page.specs.declared.markup.TheConstants.{AFTER_FIGURES, CONFLICTS_START, CONFLICTS_END, AWAITED_START, AWAITED_END, GAPS_START, GAPS_END, ENTRIES_START, ENTRIES_END, RETIRED_START, RETIRED_END}
 use Rattle.html_page.specs.Shown.{Conflict, Gap, Entry}

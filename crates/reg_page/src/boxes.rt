@@ -1,6 +1,6 @@
 //! The bounding boxes of a reference system.
 
-ghost use Rattle.std.specs.Prelude.{◌≡◌, ◌++◌, ◌∷◌, [], map, IfOk, OnOk};
+ghost use Rattle.std.specs.Prelude.{◌≡◌, ◌++◌, [], map, IfOk, OnOk};
 ghost use Rattle.crs_search.specs.Usages.{usages_of};
 ghost use Rattle.reg_page.specs.Boxes.{numeral, crosses, box_seen, box_of, box_in, boxes_in};
 

@@ -1,7 +1,7 @@
 //! Conflicts, side by side.
 
 ghost use Rattle.std.specs.Prelude.{OnOk};
-ghost use Rattle.html_text.specs.Pieces.{Appends};
+ghost use Rattle.html_page.specs.Pieces.{Appends};
 ghost use Rattle.html_page.specs.Templates.{side, pair, conflict_start};
 ghost use Rattle.reg_page.specs.Page.{side_of, named};
 

@@ -1,6 +1,6 @@
 //! The blocks of conflicts.
 
-ghost use Rattle.std.specs.Prelude.{◌≡◌, map, OnOk};
+ghost use Rattle.std.specs.Prelude.{map, OnOk};
 ghost use Rattle.std.specs.List.{flat_map};
 ghost use Rattle.html_page.specs.Templates.{pair, conflict, section};
 ghost use Rattle.html_page.specs.declared.markup.TheConstants.{CONFLICTS_START as START, CONFLICTS_END as END};

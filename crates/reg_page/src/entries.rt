@@ -4,7 +4,7 @@ ghost use Rattle.std.specs.Prelude.{◌≡◌, ℕ, map, OnOk};
 ghost use Rattle.std.specs.List.{flat_map};
 ghost use Rattle.std.specs.List.Sorted.{IsSortedByKey};
 ghost use Rattle.std.specs.Global.{Vec as Owned};
-ghost use Rattle.html_text.specs.Pieces.{Appends};
+ghost use Rattle.html_page.specs.Pieces.{Appends};
 ghost use Rattle.html_page.specs.Shown.{SupersededBy, RetiredBy};
 ghost use Rattle.html_page.specs.Templates.{operation, event, map_of, question, area, by, entry};
 ghost use Rattle.reg_op.specs.Text.{printed};

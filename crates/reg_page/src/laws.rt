@@ -2,8 +2,8 @@
 
 ghost use Rattle.std.specs.Prelude.{◌≡◌, ◌<◌, ◌++◌, ℕ, All, List, [], map, Contains, Some, Ok, true};
 ghost use Rattle.std.specs.List.Sorted.{IsPermutation, IsSorted};
-ghost use Rattle.html_text.specs.Pieces.{html};
-ghost use Rattle.html_text.specs.Places.{Content as BetweenTags, tags, past_all};
+ghost use Rattle.html_page.specs.Pieces.{html};
+ghost use Rattle.html_page.specs.Places.{Content as BetweenTags, tags, past_all};
 ghost use Rattle.html_page.specs.Shape.{shape};
 ghost use Rattle.html_page.specs.Shown.{Entry, Pair, Conflict, Shown};
 ghost use Rattle.html_page.specs.Templates.{page};

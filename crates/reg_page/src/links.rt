@@ -1,7 +1,7 @@
 //! Links to other entries.
 
 ghost use Rattle.std.specs.Prelude.{◌≡◌, option_copied, OnOk};
-ghost use Rattle.html_text.specs.Pieces.{Appends};
+ghost use Rattle.html_page.specs.Pieces.{Appends};
 ghost use Rattle.html_page.specs.Shown.{Entered, Awaited};
 ghost use Rattle.html_page.specs.Templates.{link};
 ghost use Rattle.reg_op.specs.Text.{printed};

@@ -1,9 +1,9 @@
 //! What a register lacks: awaited entries, and gaps.
 
-ghost use Rattle.std.specs.Prelude.{◌≡◌, map, OnOk};
+ghost use Rattle.std.specs.Prelude.{map, OnOk};
 ghost use Rattle.std.specs.List.{flat_map};
 ghost use Rattle.uuid.specs.Text.{hyphenated_text, lower};
-ghost use Rattle.html_text.specs.Pieces.{Appends};
+ghost use Rattle.html_page.specs.Pieces.{Appends};
 ghost use Rattle.html_page.specs.Templates.{awaited, gap_start, gap, section};
 ghost use Rattle.html_page.specs.declared.markup.TheConstants as markup;
 ghost use Rattle.reg_op.specs.Text.{printed};

@@ -3,7 +3,7 @@
 ghost use Rattle.std.specs.Prelude.{◌≡◌, ◌++◌, ◌⊎◌, true, false, List, ℕ, map, IfOk, OnOk, IfErr};
 ghost use Rattle.std.specs.List.Sorted.{IsSortedByKey};
 ghost use Rattle.byte_io.specs.Whole.{WritesAll};
-ghost use Rattle.html_text.specs.Pieces.{html, Appends};
+ghost use Rattle.html_page.specs.Pieces.{html, Appends};
 ghost use Rattle.html_page.specs.Templates.{page as page_pieces};
 ghost use Rattle.reg_report.specs.Contenders.{conflict_seen};
 ghost use Rattle.reg_op.specs.Ids.{id_cmp};

@@ -4,7 +4,7 @@ ghost use Rattle.std.specs.Prelude.{◌≡◌, ◌++◌, [], ℕ, List, IfOk, On
 ghost use Rattle.std.specs.List.Sorted.{IsSortedByKey};
 ghost use Rattle.byte_io.specs.Device.{SinkState};
 ghost use Rattle.byte_io.specs.Whole.{WritesAll};
-ghost use Rattle.html_text.specs.Pieces.{html, Appends};
+ghost use Rattle.html_page.specs.Pieces.{html, Appends};
 ghost use Rattle.reg_op.specs.Ids.{id_cmp};
 ghost use Rattle.reg_page.specs.Blocks.{setting, pieces_of, bytes_of};
 ghost use Rattle.reg_page.specs.Descriptions.{AscendById};

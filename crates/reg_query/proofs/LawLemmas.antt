@@ -9,17 +9,19 @@ use Rattle.reg_op.specs.Contents.{Content, IsContent}
 use Rattle.reg_report.specs.declared.row.Row.{Row as DeclaredRow}
 use Rattle.reg_report.specs.Seen.{row_seen}
 use Rattle.reg_report.specs.Lines.{AreLines}
+use Rattle.reg_report.specs.Rows.{row_cmp}
 use Rattle.reg_report.proofs.ConflictLemmas.{none_in, in_head}
+use Rattle.reg_report.proofs.OrderLemmas.{same_elements}
 use Rattle.reg_report.proofs.ReportLemmas.{one_line, same_lines}
+use Rattle.reg_report.proofs.RowLemmas.{row_total, rows_ascend}
 use Rattle.reg_query.specs.declared.diff.change.Change.{Change as Declared}
 use Rattle.reg_query.specs.declared.diff.change.Sign.{Sign}
 use Rattle.reg_query.specs.declared.diff.change.Sign.TheVariants.{Gone, Come}
-use Rattle.reg_query.specs.Changes.{Change, sign_text, IsChange, row_cmp, AreChanges}
+use Rattle.reg_query.specs.Changes.{Change, sign_text, IsChange, AreChanges}
 use Rattle.reg_query.specs.ChangesSeen.{change_seen}
 use Rattle.reg_query.specs.DiffLines.{changes_header, IsChangeLine, IsDiff, Differ}
-use Rattle.reg_query.proofs.OrderLemmas.{same_elements}
-use Rattle.reg_query.proofs.StepLemmas.{row_total, change_total, gone, come}
-use Rattle.reg_query.proofs.RowLemmas.{rows_ascend, has_or_not}
+use Rattle.reg_query.proofs.StepLemmas.{change_total, gone, come}
+use Rattle.reg_query.proofs.RowLemmas.{has_or_not}
 
 -- ---- one list of changes
 

@@ -4,9 +4,10 @@ pub mod SeenLemmas
 pub mod OpsLemmas
 pub mod OfficeLemmas
 pub mod FigureLemmas
-pub mod OrderLemmas
 pub mod StepLemmas
 pub mod WalkLemmas
 pub mod RowLemmas
 pub mod SheetLemmas
 pub mod LawLemmas
+pub mod LogLemmas
+pub mod AskedLemmas

@@ -1,64 +1,20 @@
--- The rows of a content ascend by entry, and equality of rows is decidable.
-use Rattle.std.proofs.Common.{◌≡◌, ℕ, Bool, true, List, [], ◌∷◌, ◌++◌, ◌⊎◌, Option, None, Some, zero, suc, IsTrue, ◌↔◌, refl, sym, ap, ◌∙◌, subst, inl, inr}
+-- Equality of rows is decidable.
+use Rattle.std.proofs.Common.{◌≡◌, ℕ, Bool, true, List, [], ◌∷◌, ◌⊎◌, Option, None, Some, zero, suc, IsTrue, ◌↔◌, refl, sym, ap, ◌∙◌, subst, inl, inr}
 use Rattle.std.proofs.lemmas.Bool.{true≢false}
-use Rattle.std.proofs.lemmas.List.Elements.{Contains-append_cases}
 use Rattle.std.proofs.lemmas.Cmp.{nat_list_cmp_total, lists_total}
-use Rattle.std.specs.List.{Contains, flat_map}
+use Rattle.std.specs.List.{Contains}
 use Rattle.std.specs.Cmp.{IsTotalOrder, Equal-is, tied_itself, then_total, on_total, nat_cmp_total}
 use Rattle.std.specs.Cmp.Lexicographic.{slice_cmp}
 use Rattle.std.specs.Ordering.{nat_cmp, is_eq, ordering_then}
 use Rattle.std.specs.declared.cmp.Ordering.{Ordering}
 use Rattle.std.specs.declared.cmp.Ordering.TheVariants.{Less, Equal, Greater}
-use Rattle.reg_op.specs.Set as set
-use Rattle.reg_op.specs.Set.{Ascends, IsAntisymmetric, nat_cmp-IsAntisymmetric, slice_cmp-IsAntisymmetric}
+use Rattle.reg_op.specs.Set.{nat_cmp-IsAntisymmetric, slice_cmp-IsAntisymmetric}
 use Rattle.reg_op.specs.Ids.{Id, id_cmp, is_same}
-use Rattle.reg_op.specs.Lists.{AllAfter, ById}
-use Rattle.reg_op.specs.Operations.{Op, Ops}
-use Rattle.reg_op.specs.declared.operation.OpBody.{OpBody as Body}
-use Rattle.reg_op.specs.declared.operation.OpBody.TheVariants.{Enter, Supersede, Retire}
-use Rattle.reg_op.specs.Status.{status}
 use Rattle.reg_op.specs.declared.status.Status.{Status}
 use Rattle.reg_op.specs.declared.status.Status.TheVariants.{Valid, Superseded, Retired}
-use Rattle.reg_op.specs.Contents.{Content, IsContent}
-use Rattle.reg_op.specs.Rows.{Row, newer_of, rows_at, rows}
+use Rattle.reg_op.specs.Rows.{Row}
 use Rattle.reg_op.proofs.OpLemmas.{id_total, id_exact, bytes_exact, is_same_exact}
-use Rattle.reg_op.proofs.SetLemmas.{less}
-use Rattle.reg_op.proofs.ItemLemmas.{items_by_id}
 use Rattle.reg_report.proofs.ConflictLemmas.{none_in, in_cons, in_head, in_tail}
-use Rattle.reg_query.specs.Changes.{row_cmp}
-use Rattle.reg_query.proofs.OrderLemmas.{put_before}
-use Rattle.reg_query.proofs.StepLemmas.{row_total}
-
--- ---- by entry
-
-entry_of : (s : Ops) (i : Id) (b : Body) (r : Row) → Contains (rows_at s i b) r → r.entry ≡ i
-entry_of s i (Enter text) r h = elim (in_cons r _ [] h) [ inl e ↦ ap (λ (q : Row). q.entry) e | inr d ↦ absurd (none_in r d) ]
-entry_of s i (Supersede old newer) r h = absurd (none_in r h)
-entry_of s i (Retire entry) r h = absurd (none_in r h)
-
-abbrev rows_in : Ops → List Op → List Row
-rows_in s os = flat_map (λ (o : Op). rows_at s o.id o.body) os
-
-rows_after : (s : Ops) (i : Id) (os : List Op) → AllAfter i os → (r : Row) → Contains (rows_in s os) r → id_cmp i r.entry ≡ Less
-rows_after s i [] up r h = absurd (none_in r h)
-rows_after s i (o ∷ os) up r h = elim (Contains-append_cases (rows_at s o.id o.body) (rows_in s os) r h) [
-  | inl here ↦ subst (λ k. id_cmp i k ≡ Less) (sym (entry_of s o.id o.body r here)) (less _ up.0)
-  | inr later ↦ rows_after s i os up.1 r later
-]
-
-rows_ascend_in : (s : Ops) (os : List Op) → ById os → Ascends row_cmp (rows_in s os)
-rows_ascend_in s [] up = tt
-rows_ascend_in s (o ∷ os) up = by_body o.body (rows_ascend_in s os up.1)
-  where
-    by_body : (b : Body) → Ascends row_cmp (rows_in s os) → Ascends row_cmp (rows_at s o.id b ++ rows_in s os)
-    by_body (Enter text) rest = put_before row_total (record { entry = o.id; definition = text; status = status s o.id; newer = set.items (newer_of s o.id) }) (rows_in s os) (rows_after s o.id os up.0) rest
-    by_body (Supersede old newer) rest = rest
-    by_body (Retire entry) rest = rest
-
-pub rows_ascend : (x : Content) → IsContent x → Ascends row_cmp (rows x.ops)
-rows_ascend x is = rows_ascend_in x.ops (set.items x.ops) (items_by_id x.ops is.one_body)
-
--- ---- equality of rows is decidable
 
 number : Option Status → ℕ
 number None = 0

@@ -5,17 +5,15 @@ use Rattle.std.specs.Cmp.{IsTotalOrder, then_total, on_total, nat_cmp_total}
 use Rattle.std.specs.Ordering.{nat_cmp, ordering_then}
 use Rattle.std.specs.declared.cmp.Ordering.TheVariants.{Less}
 use Rattle.reg_op.specs.Rows.{Row}
-use Rattle.reg_op.proofs.OpLemmas.{id_total}
+use Rattle.reg_report.specs.Rows.{row_cmp}
 use Rattle.reg_report.proofs.ConflictLemmas.{in_cons, in_head, in_tail}
+use Rattle.reg_report.proofs.OrderLemmas.{Before, never_less, put_before}
+use Rattle.reg_report.proofs.RowLemmas.{row_total}
 use Rattle.reg_query.specs.declared.diff.change.Sign.{Sign}
 use Rattle.reg_query.specs.declared.diff.change.Sign.TheVariants.{Gone, Come}
-use Rattle.reg_query.specs.Changes.{Change, signed, IsChange, rank, row_cmp, change_cmp, AreChanges}
-use Rattle.reg_query.proofs.OrderLemmas.{Before, never_less, put_before}
+use Rattle.reg_query.specs.Changes.{Change, signed, IsChange, rank, change_cmp, AreChanges}
 
 -- ---- the order of changes
-
-pub row_total : IsTotalOrder row_cmp
-row_total = on_total (λ r. r.entry) id_total
 
 pub change_total : IsTotalOrder change_cmp
 change_total = then_total (on_total (λ c. c.row) row_total) (on_total (λ c. rank c.sign) nat_cmp_total)

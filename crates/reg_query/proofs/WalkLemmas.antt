@@ -7,13 +7,15 @@ use Rattle.reg_op.specs.Set.{Ascends}
 use Rattle.reg_op.specs.Rows.{Row}
 use Rattle.reg_report.specs.declared.row.Row.{Row as Declared}
 use Rattle.reg_report.specs.Seen.{row_seen}
+use Rattle.reg_report.specs.Rows.{row_cmp}
 use Rattle.reg_report.proofs.ConflictLemmas.{none_in, in_cons}
+use Rattle.reg_report.proofs.OrderLemmas.{Before, never_less, first_before, rest_ascends}
+use Rattle.reg_report.proofs.RowLemmas.{row_total}
 use Rattle.reg_query.specs.declared.diff.change.Sign.{Sign}
 use Rattle.reg_query.specs.declared.diff.change.Sign.TheVariants.{Gone, Come}
-use Rattle.reg_query.specs.Changes.{Change, signed, IsChange, row_cmp, change_cmp, AreChanges}
+use Rattle.reg_query.specs.Changes.{Change, signed, IsChange, change_cmp, AreChanges}
 use Rattle.reg_query.specs.DiffWalk.{AddsUnlike}
-use Rattle.reg_query.proofs.OrderLemmas.{Before, never_less, first_before, rest_ascends}
-use Rattle.reg_query.proofs.StepLemmas.{row_total, gone, come, before_later, put_gone, put_come, put_both}
+use Rattle.reg_query.proofs.StepLemmas.{gone, come, before_later, put_gone, put_come, put_both}
 
 -- `made` followed by the changes from `olds` to `news`, the rows not yet read, is the list of changes from `old` to `new`
 pub record Walks (old new olds news : List Row) (made : List Change) : Type 0 where

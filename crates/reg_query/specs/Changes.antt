@@ -3,8 +3,8 @@ use Rattle.std.specs.Prelude.{◌↔◌, ℕ, List, Contains, codes}
 use Rattle.std.specs.declared.cmp.Ordering.{Ordering}
 use Rattle.std.specs.Ordering.{nat_cmp, ordering_then}
 use Rattle.reg_op.specs.Set.{Ascends}
-use Rattle.reg_op.specs.Ids.{id_cmp}
 use Rattle.reg_op.specs.Rows.{Row}
+use Rattle.reg_report.specs.Rows.{row_cmp}
 use Rattle.reg_query.specs.declared.diff.change.Sign.{Sign}
 use Rattle.reg_query.specs.declared.diff.change.Sign.TheVariants.{Gone, Come}
 
@@ -29,10 +29,6 @@ IsChange Come old new r = Contains new r × ¬ (Contains old r)
 abbrev pub rank : Sign → ℕ
 rank Gone = 0
 rank Come = 1
-
--- rows are ordered by the entry
-abbrev pub row_cmp : Row → Row → Ordering
-row_cmp a b = id_cmp a.entry b.entry
 
 -- changes are ordered by the entry, and then by the sign
 abbrev pub change_cmp : Change → Change → Ordering

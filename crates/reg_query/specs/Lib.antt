@@ -6,3 +6,6 @@ pub mod Changes
 pub mod ChangesSeen
 pub mod DiffLines
 pub mod DiffWalk
+pub mod Log
+pub mod Asked
+pub mod LogLines

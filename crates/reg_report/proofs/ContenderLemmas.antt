@@ -39,12 +39,6 @@ one_key text k l h g =
 
 -- ---- one row after another
 
-pub none_yet : AreContenders [] []
-none_yet = record {
-  each = λ c h. absurd (none_in c h);
-  all = λ r h s. absurd (none_in r h);
-}
-
 one_more : (rs : List Row) (r : Row) (old new : List Contender) → AreContenders rs old → Adds r old new → AreContenders (rs ++ r ∷ []) new
 one_more rs r old new are (inl (gone, same)) = record {
   each = λ c h. let f = are.each c (subst (λ l. Contains l c) same h) in (f.0, Contains-append_left rs (r ∷ []) f.0 f.1, f.2, f.3);

@@ -10,3 +10,6 @@ pub mod OneLemmas
 pub mod GapLists
 pub mod ReportLemmas
 pub mod EntryLemmas
+pub mod OrderLemmas
+pub mod RowLemmas
+pub mod FoundLemmas

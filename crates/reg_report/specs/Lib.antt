@@ -1,7 +1,9 @@
 pub mod Names
 pub mod Pairs
 pub mod Seen
+pub mod Rows
 pub mod Conflicts
+pub mod Keys
 pub mod Contenders
 pub mod Gaps
 pub mod Lines

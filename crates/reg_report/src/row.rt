@@ -1,13 +1,16 @@
 //! The rows of a register: its entries, with their statuses.
 
-ghost use Rattle.std.specs.Prelude.{◌≡◌, ◌++◌, Bool, true, map, Some, IfOk, OnOk};
+ghost use Rattle.std.specs.Prelude.{◌≡◌, ◌≢◌, ◌↔◌, ◌++◌, Bool, true, map, Some, IsTrue, IfOk, OnOk};
 ghost use Rattle.std.specs.List.{list_any, flat_map};
 ghost use Rattle.std.specs.List.Sorted.{IsSorted};
 ghost use Rattle.reg_op.specs.Set as set;
+ghost use Rattle.reg_op.specs.Set.{Ascends};
 ghost use Rattle.reg_op.specs.Operations.{Op as Operation};
 ghost use Rattle.reg_op.specs.Rows.{newer_of, rows_at, rows};
 ghost use Rattle.reg_op.specs.Status.{enters, status};
+ghost use Rattle.reg_op.specs.declared.status.Status.TheVariants.{Retired};
 ghost use Rattle.reg_report.specs.Pairs.{pair_cmp, pairs_in};
+ghost use Rattle.reg_report.specs.Rows.{row_cmp};
 ghost use Rattle.reg_report.specs.Seen.{row_seen};
 
 use crate::distinct::distinct;
@@ -26,9 +29,17 @@ pub struct Row {
     pub newer: Vec<OpId>,
 }
 
+/// Whether the entry is not retired.
+pub fn is_live(row: &Row) -> bool
+    ensures { IsTrue result ↔ ((row_seen row.now).status ≢ Some Retired) }
+{
+    row.status != Status::Retired
+}
+
 /// A row for each entry, by id.
 pub fn rows(alloc: Global, register: &Register) -> Result<Vec<Row>, AllocError>
-    ensures { IfOk result (λ made. map row_seen made.items ≡ rows register.now.ops) }
+    ensures rows { IfOk result (λ made. map row_seen made.items ≡ rows register.now.ops) }
+    ensures order { IfOk result (λ made. Ascends row_cmp (map row_seen made.items)) }
 {
     let ops = register.ops().as_slice();
     let pairs = pairs_of(alloc, ops)?;

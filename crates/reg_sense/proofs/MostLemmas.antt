@@ -5,17 +5,15 @@ use Rattle.std.proofs.lemmas.Cmp.{nat_cmp_total, nat_list_cmp_total, then_total,
 use Rattle.std.proofs.lemmas.List.MinMax.{ranks_by}
 use Rattle.std.proofs.lemmas.Slice.Eq.{bytes_eq-Decides}
 use Rattle.std.specs.Borrow.{Bor}
-use Rattle.std.specs.BTreeMap.{BTreeMap}
 use Rattle.std.specs.Cmp.{IsStrictWeakOrder, IsTotalOrder, back_total}
 use Rattle.std.specs.Cmp.Lexicographic.{texts_ties}
-use Rattle.std.specs.Map.{lookup}
 use Rattle.std.specs.Ordering.{is_eq}
 use Rattle.std.specs.Str.{bytes_eq}
 use Rattle.crs_said.specs.Claims.{Said}
 use Rattle.reg_sense.specs.Claimants.{Voice, key_text, is_about}
 use Rattle.reg_sense.specs.Least.{least, lesser}
 use Rattle.reg_sense.specs.Most.{claiming, count, contents, most_cmp, is_more, is_content, more_told, those_told}
-use Rattle.reg_sense.specs.Tallies.{Counted, tally, bytes_cmp, seen_in, HasMost}
+use Rattle.reg_sense.specs.Tallies.{Counted, tally, bytes_cmp, seen_in}
 use Rattle.reg_sense.proofs.LeastLemmas.{least_cons}
 use Rattle.reg_sense.proofs.TallyLemmas.{says, nobody_claims}
 
@@ -72,9 +70,6 @@ most_kept vs x xs q old is had = elim (is_about q x) as (λ b. is_about q x ≡ 
       had
       ∙ (λ j. least (is_more vs q) (map (λ (z : Said). z.content) (cond (sym n j) (x ∷ filter (is_about q) xs) (filter (is_about q) xs))))
 ] refl
-
-pub none_most : (vs : List Voice) (m : BTreeMap (Bor (List ℕ)) (Bor (List ℕ))) → m.entries ≡ [] → HasMost vs m []
-none_most vs m e q = ap (λ es. seen_in (lookup (λ k. is_eq (bytes_cmp q k)) es)) e
 
 -- ---- those who claim what most claim
 

@@ -4,13 +4,12 @@ use Rattle.std.proofs.lemmas.Slice.Eq.{bytes_eq-Decides}
 use Rattle.std.specs.Borrow.{Bor}
 use Rattle.std.specs.Cmp.Lexicographic.{texts_ties}
 use Rattle.std.specs.List.{list_any}
-use Rattle.std.specs.Map.{lookup}
 use Rattle.std.specs.Ordering.{is_eq}
 use Rattle.std.specs.Str.{bytes_eq}
 use Rattle.crs_said.specs.Claims.{Said}
 use Rattle.reg_sense.specs.declared.others.Sides.{Sides}
 use Rattle.reg_sense.specs.Claimants.{Voice, voice, is_about}
-use Rattle.reg_sense.specs.Others.{is_other, first_other, apart, AllSides, HasSides}
+use Rattle.reg_sense.specs.Others.{is_other, first_other, apart}
 use Rattle.reg_sense.specs.Tallies.{bytes_cmp}
 use Rattle.reg_sense.specs.Twins.{voice_in}
 
@@ -48,6 +47,3 @@ module _ (v : Voice) (x : Said) (done : List Said) (vs : List Voice) (own : Bor 
         ∙ had
         ∙ (λ j. then_part (sym n j && not (bytes_eq x.content c)))
   ] refl
-
-pub no_sides : (m : AllSides) → m.entries ≡ [] → HasSides m []
-no_sides m e q c = ap (λ es. apart c (lookup (λ k. is_eq (bytes_cmp q k)) es)) e

@@ -5,17 +5,17 @@ use Rattle.std.proofs.lemmas.List.{map-append, length-map, length-append}
 use Rattle.std.proofs.lemmas.Slice.Eq.{bytes_eq-Decides}
 use Rattle.std.specs.Str.{bytes_eq}
 use Rattle.std.specs.List.{list_any}
-use Rattle.std.specs.Map.{lookup}
 use Rattle.std.specs.Ordering.{nat_cmp, is_eq, ordering_then}
 use Rattle.std.specs.Cmp.Lexicographic.{slice_cmp, texts_ties}
 use Rattle.std.specs.declared.cmp.Ordering.{Ordering}
 use Rattle.std.specs.declared.cmp.Ordering.TheVariants.{Less, Equal, Greater}
+use Rattle.std.proofs.lemmas.Option.{same_Some}
 use Rattle.crs_said.specs.Claims.{Said}
 use Rattle.reg_sense.specs.declared.tally.Pair.{Pair}
 use Rattle.reg_sense.specs.declared.tally.Tally.{Tally}
 use Rattle.reg_sense.specs.Claimants.{Voice, is_claim}
 use Rattle.reg_sense.specs.Most.{claiming, count}
-use Rattle.reg_sense.specs.Tallies.{Counted, counted, with_first, tally, with_one, IsRoomy, pair_cmp, Tallies, HasTallies}
+use Rattle.reg_sense.specs.Tallies.{Counted, counted, with_first, tally, with_one, IsRoomy, pair_cmp}
 
 then_eq : (r t : Ordering) → is_eq (ordering_then r t) ≡ (is_eq r && is_eq t)
 then_eq Less t = refl
@@ -36,13 +36,6 @@ pub claimed_content : (w c : List ℕ) (x : Said) → is_claim w c x ≡ true �
 claimed_content w c x e = (bytes_eq-Decides x.content c).0 (and_parts (bytes_eq x.word w) (bytes_eq x.content c) e).1
 
 -- ---- numbers
-
-abbrev value_or : {X : Type 0} → X → Option X → X
-value_or d None = d
-value_or d (Some x) = x
-
-some_is : {X : Type 0} (x y : X) → Some x ≡ Some y → x ≡ y
-some_is x y e = ap (value_or x) e
 
 no_some : {X : Type 0} (x : X) → Some x ≡ None → ⊥
 no_some x e = cc
@@ -69,7 +62,7 @@ module _ (w c : List ℕ) where
   says i [] t e = cc
   says i (v ∷ vs) t e = elim (has v.claims) as (λ b. has v.claims ≡ b → Says i (v ∷ vs) t) [
     | true ↦ λ y.
-        let is : with_first w c i v vs ≡ t = some_is (with_first w c i v vs) t ((λ j. cond (sym y j) (Some (with_first w c i v vs)) (tally w c (suc i) vs)) ∙ e) in
+        let is : with_first w c i v vs ≡ t = same_Some (with_first w c i v vs) t ((λ j. cond (sym y j) (Some (with_first w c i v vs)) (tally w c (suc i) vs)) ∙ e) in
         let p : i ≡ t.place = ap (λ (u : Counted). u.place) is in
         record {
           place = omega (arith, p);
@@ -151,9 +144,6 @@ module _ (i : ℕ) (v : Voice) (x : Said) (done : List Said) (vs : List Voice) (
         ∙ (λ j. now (sym n j || list_any (is_claim q.word.now q.content.now) done))
   ] refl
 
-pub no_tallies : (m : Tallies) (i : ℕ) → m.entries ≡ [] → HasTallies m i []
-no_tallies m i e q = ap (λ es. counted (lookup (λ k. is_eq (pair_cmp q k)) es)) e
-
 -- ---- walks from the end
 
 pub one_less : {X : Type 0} (all rest others later : List X) (x : X) → all ≡ rest ++ later → rest ≡ others ++ x ∷ [] → all ≡ others ++ (x ∷ later)
@@ -161,10 +151,6 @@ one_less all rest others later x e f = e ∙ ap (λ l. l ++ later) f ∙ append_
 
 pub seen_end : {X Y : Type 0} (f : X → Y) (rest others : List X) (x : X) → rest ≡ others ++ x ∷ [] → map f rest ≡ map f others ++ f x ∷ []
 seen_end f rest others x e = ap (map f) e ∙ map-append f others (x ∷ [])
-
-pub all_later : {X Y : Type 0} (f : X → Y) (rest : List X) (all later : List Y) → length rest ≡ 0 → all ≡ map f rest ++ later → all ≡ later
-all_later f [] all later e h = h
-all_later f (x ∷ rest) all later e h = absurd (omega (arith, e))
 
 pub one_longer : {X : Type 0} (rest others : List X) (x : X) → rest ≡ others ++ x ∷ [] → length rest ≡ suc (length others)
 one_longer rest others x e = let a = ap length e ∙ length-append others (x ∷ []) in omega (arith, a)

@@ -7,7 +7,6 @@ use Rattle.std.specs.Borrow.{Bor}
 use Rattle.std.specs.Cmp.{IsStrictWeakOrder, IsTotalOrder}
 use Rattle.std.specs.Cmp.Lexicographic.{texts_ties}
 use Rattle.std.specs.List.{list_any}
-use Rattle.std.specs.Map.{lookup}
 use Rattle.std.specs.Ordering.{is_eq}
 use Rattle.std.specs.Str.{bytes_eq}
 use Rattle.crs_said.specs.Claims.{Said}
@@ -16,7 +15,7 @@ use Rattle.reg_sense.specs.Claimants.{Voice, voice, is_about}
 use Rattle.reg_sense.specs.Keys.{class_of, digits_of, code_cmp, key_cmp, is_before}
 use Rattle.reg_sense.specs.Least.{least, lesser}
 use Rattle.reg_sense.specs.Tallies.{bytes_cmp}
-use Rattle.reg_sense.specs.Twins.{saying, voice_in, Firsts, HasFirsts}
+use Rattle.reg_sense.specs.Twins.{saying, voice_in}
 use Rattle.reg_sense.proofs.LeastLemmas.{least_cons, lesser_twice}
 
 code_total : IsTotalOrder code_cmp
@@ -52,6 +51,3 @@ word_step v x done vs own made q was old new w is before put had =
           ∙ had
           ∙ (λ j. least is_before (cond (sym n j || list_any (is_about q.now) done) (v ∷ saying q.now vs) (saying q.now vs)))
     ] refl
-
-pub no_firsts : (m : Firsts) → m.entries ≡ [] → HasFirsts m []
-no_firsts m e q = ap (λ es. voice_in (lookup (λ k. is_eq (bytes_cmp q k)) es)) e

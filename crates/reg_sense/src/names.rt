@@ -5,7 +5,7 @@ ghost use Rattle.std.specs.Global.{Vec};
 ghost use Rattle.crs_said.specs.Claims.{claim_seen};
 ghost use Rattle.reg_sense.specs.Claimants.{voice, detail_seen, first_told};
 ghost use Rattle.reg_sense.specs.declared.claimant.Claimant.{Claimant};
-ghost use Rattle.reg_sense.specs.Names.{is_among, HasNames, name_told, told_names};
+ghost use Rattle.reg_sense.specs.Names.{HasNames, name_told, told_names};
 
 use crate::claimant::Claimant;
 use crs_said::Claim;

@@ -1,6 +1,6 @@
 //! How many claim each content, and who is the first.
 
-ghost use Rattle.std.specs.Prelude.{◌≡◌, ◌<◌, ◌+◌, ◌^◌, ◌∷◌, ℕ, suc, List, length, map, Some, IfOk, OnOk};
+ghost use Rattle.std.specs.Prelude.{◌≡◌, ◌<◌, ◌+◌, ◌^◌, ◌∷◌, suc, List, length, map, Some, IfOk, OnOk};
 ghost use Rattle.crs_said.specs.Claims.{Said, claim_seen};
 ghost use Rattle.reg_sense.specs.Claimants.{Voice, voice};
 ghost use Rattle.reg_sense.specs.Tallies.{IsRoomy, counted, with_one, HasPut, HasTallies, HasPart};

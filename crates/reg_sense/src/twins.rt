@@ -4,7 +4,7 @@ ghost use Rattle.std.specs.Prelude.{◌≡◌, ◌∷◌, List, map, IfOk, OnOk}
 ghost use Rattle.std.specs.Option.{option_copied};
 ghost use Rattle.crs_said.specs.Claims.{Said, claim_seen};
 ghost use Rattle.reg_sense.specs.declared.claimant.Claimant.{Claimant};
-ghost use Rattle.reg_sense.specs.Claimants.{Voice, voice, detail_seen, first_told};
+ghost use Rattle.reg_sense.specs.Claimants.{Voice, voice, detail_seen};
 ghost use Rattle.reg_sense.specs.Keys.{is_before};
 ghost use Rattle.reg_sense.specs.Least.{lesser};
 ghost use Rattle.reg_sense.specs.Twins.{twin_text, twin_told, told_twin, voice_in, HasFirsts, HasPart};

@@ -13,11 +13,12 @@ use Rattle.std.proofs.lemmas.List.Sorted.{ranks_by, sorted_far, Contains-permuta
 use Rattle.reg_op.specs.Ids.{Id}
 use Rattle.reg_op.specs.Rows.{Row}
 use Rattle.reg_report.specs.Conflicts.{KeyBytes, key_cmp, HasKey}
+use Rattle.reg_report.specs.Keys.{key_bytes}
 use Rattle.reg_report.proofs.ConflictLemmas.{key_total, key_exact, in_head, in_tail}
 use Rattle.reg_report.proofs.ContenderLemmas.{one_key}
 use Rattle.reg_settle.specs.Settling.{Picks, IsRival}
 use Rattle.reg_settle.specs.declared.rival.Rival.{Rival}
-use Rattle.reg_settle.specs.Keeping.{key_bytes, entry_of, is_of_key, rival_cmp, MayGo, AddsRival, AreRivals}
+use Rattle.reg_settle.specs.Keeping.{entry_of, is_of_key, rival_cmp, MayGo, AddsRival, AreRivals}
 
 -- ---- a loop over the rows
 

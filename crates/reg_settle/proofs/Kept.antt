@@ -9,20 +9,22 @@ use Rattle.std.specs.Ordering.{is_eq}
 use Rattle.std.proofs.lemmas.List.Elements.{Contains-append_cases, Contains-append_left, Contains-append_right}
 use Rattle.reg_op.specs.Ids.{Id}
 use Rattle.reg_op.specs.Rows.{Row}
+use Rattle.reg_op.specs.Set.{Ascends}
 use Rattle.reg_op.specs.declared.status.Status.TheVariants.{Retired}
 use Rattle.reg_report.specs.Conflicts.{KeyBytes, key_cmp, HasKey}
+use Rattle.reg_report.specs.Rows.{row_cmp, HasRow}
 use Rattle.reg_report.proofs.ConflictLemmas.{none_in, in_cons, in_head, in_tail}
 use Rattle.reg_report.proofs.ContenderLemmas.{one_key}
+use Rattle.reg_report.proofs.FoundLemmas.{OneRow, one_row}
 use Rattle.reg_settle.specs.declared.fault.SettleFault.TheVariants as fault
+use Rattle.reg_report.specs.declared.key.KeyText.{KeyText}
 use Rattle.reg_report.specs.declared.row.Row.{Row as MadeRow}
-use Rattle.reg_settle.specs.declared.key.KeyText.{KeyText}
+use Rattle.reg_report.specs.Keys.{text_cmp}
 use Rattle.reg_settle.specs.declared.rival.Rival.{Rival}
-use Rattle.reg_settle.specs.Settling.{Picks, IsTaken, IsKept, IsRival, HasRow, IsObjection}
-use Rattle.reg_settle.specs.ByEntry.{ByEntry}
-use Rattle.reg_settle.specs.Keeping.{text_cmp, At, Holds, seen_in, with_row, entry_of, is_of_key, AreRivals, Retires, IsOther}
-use Rattle.reg_settle.proofs.Settled.{OneRow, is_in, picked, picked_are}
+use Rattle.reg_settle.specs.Settling.{Picks, IsTaken, IsKept, IsRival, IsObjection}
+use Rattle.reg_settle.specs.Keeping.{At, Holds, seen_in, with_row, entry_of, is_of_key, AreRivals, Retires, IsOther}
+use Rattle.reg_settle.proofs.Settled.{is_in, picked, picked_are}
 use Rattle.reg_settle.proofs.Candidates.{same_key, key_itself, picks_of_key}
-use Rattle.reg_settle.proofs.Ordered.{one_by_entry}
 use Rattle.reg_settle.proofs.Steps.{Goes, goes_next}
 
 -- what holds for each key after the entries `before` are kept
@@ -188,12 +190,12 @@ module _ (rs : List Row) (keeps before retired : List Id) (at : At) (one : OneRo
 
 -- ---- one iteration of the loop
 
-pub next_kept : (rs : List Row) (keeps ids new : List Id) (i : ℕ) (e : Id) (at : At) (keep : Row) (k : KeyBytes) (cs : List Rival) → ByEntry rs → AreRivals keeps rs cs → i < length keeps → e ≡ get_or keeps i e
+pub next_kept : (rs : List Row) (keeps ids new : List Id) (i : ℕ) (e : Id) (at : At) (keep : Row) (k : KeyBytes) (cs : List Rival) → Ascends row_cmp rs → AreRivals keeps rs cs → i < length keeps → e ≡ get_or keeps i e
     → HasRow rs e keep → keep.status ≢ Some Retired → HasKey keep.definition k → Retires (at k) keep (filter (is_of_key k) cs) ids new
     → Goes rs keeps (take i keeps) (drop i keeps) ids → Kept rs keeps (take i keeps) ids at
     → Goes rs keeps (take (i + 1) keeps) (drop (i + 1) keeps) new × Kept rs keeps (take (i + 1) keeps) new (with_row k keep at)
 next_kept rs keeps ids new i e at keep k cs up are lt is has stands keyed r goes kept =
-    let one : OneRow rs = one_by_entry rs up in
+    let one : OneRow rs = one_row rs up in
     let agree = agrees rs keeps (take i keeps) ids at one kept keep has.there k keyed (filter (is_of_key k) cs) ids new (at k) refl r in
     let m = retires_are rs keeps (take i keeps) ids at one kept keep has.there k keyed cs are (at k) refl new r in
     let more = kept_more rs keeps (take i keeps) ids at one kept keep has.there k keyed m.0 m.1 agree in

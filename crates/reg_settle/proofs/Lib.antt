@@ -1,7 +1,6 @@
 mod Steps
 pub mod Settled
 mod Windows
-pub mod Ordered
 mod Candidates
 mod Kept
 mod Repeated

@@ -6,46 +6,24 @@ use Rattle.std.specs.BTreeSet.{BTreeSet}
 use Rattle.std.specs.List.{list_any}
 use Rattle.std.specs.Cmp.{Equal-is, tied_itself}
 use Rattle.std.specs.Cmp.Lexicographic.{slice_cmp}
-use Rattle.std.specs.Ordering.{nat_cmp, is_eq}
+use Rattle.std.specs.Ordering.{nat_cmp, is_eq, is_lt}
 use Rattle.std.proofs.lemmas.Cmp.{nat_list_cmp_total}
 use Rattle.std.proofs.lemmas.List.Elements.{Contains-append_cases, Contains-append_left, Contains-append_right}
-use Rattle.reg_op.specs.Ids.{is_before}
 use Rattle.reg_op.specs.Rows.{Row}
+use Rattle.reg_op.specs.Set.{Ascends}
 use Rattle.reg_op.specs.declared.status.Status.TheVariants.{Retired}
-use Rattle.reg_op.proofs.OpLemmas.{bytes_exact, is_before_chain, not_before_itself}
+use Rattle.reg_op.proofs.OpLemmas.{bytes_exact}
+use Rattle.reg_report.specs.Rows.{row_cmp}
 use Rattle.reg_report.proofs.ConflictLemmas.{none_in, in_cons, in_head}
+use Rattle.reg_report.proofs.OrderLemmas.{before_it}
+use Rattle.reg_report.proofs.RowLemmas.{row_total, in_front}
 use Rattle.reg_settle.specs.Doubles.{IsDouble}
-use Rattle.reg_settle.specs.ByEntry.{ByEntry}
 use Rattle.reg_settle.specs.Texts.{HasText, HasTexts, bytes_cmp}
 
--- ---- earlier and later rows
-
--- an earlier row has a lesser entry
-lesser_before : (done others : List Row) (r x : Row) → ByEntry (done ++ r ∷ others) → Contains done x → is_before x.entry r.entry ≡ true
-lesser_before [] others r x up h = absurd (none_in x h)
-lesser_before (d ∷ done) others r x up h = elim (in_cons x d done h) [
-  | inl same ↦ subst (λ (q : Row). is_before q.entry r.entry ≡ true) (sym same) (up.0 r (Contains-append_right done (r ∷ others) r (in_head r others)))
-  | inr later ↦ lesser_before done others r x up.1 later
-]
-
-from_r : (done others : List Row) (r x : Row) → ByEntry (done ++ r ∷ others) → Contains others x → is_before r.entry x.entry ≡ true
-from_r [] others r x up h = up.0 x h
-from_r (d ∷ done) others r x up h = from_r done others r x up.1 h
-
--- a row with a lesser entry is an earlier row
-before_lesser : (done others : List Row) (r x : Row) → ByEntry (done ++ r ∷ others) → Contains (done ++ r ∷ others) x → is_before x.entry r.entry ≡ true → Contains done x
-before_lesser done others r x up h less = elim (Contains-append_cases done (r ∷ others) x h) [
-  | inl early ↦ early
-  | inr late ↦ elim (in_cons x r others late) [
-    | inl same ↦ absurd (not_before_itself r.entry (subst (λ (q : Row). is_before q.entry r.entry ≡ true) same less))
-    | inr later ↦ absurd (not_before_itself r.entry (is_before_chain r.entry x.entry r.entry (from_r done others r x up later) less))
-  ]
-]
-
-pub double_is : (all done rest others : List Row) (r : Row) (t : Bool) → all ≡ done ++ rest → rest ≡ r ∷ others → ByEntry all → IsTrue t ↔ ((r.status ≢ Some Retired) × HasText done r.definition) → IsTrue t ↔ IsDouble all r
+pub double_is : (all done rest others : List Row) (r : Row) (t : Bool) → all ≡ done ++ rest → rest ≡ r ∷ others → Ascends row_cmp all → IsTrue t ↔ ((r.status ≢ Some Retired) × HasText done r.definition) → IsTrue t ↔ IsDouble all r
 double_is all done rest others r t e f up is =
     let whole : all ≡ done ++ r ∷ others = e ∙ ap (λ l. done ++ l) f in
-    let rises : ByEntry (done ++ r ∷ others) = subst ByEntry whole up in (
+    let rises : Ascends row_cmp (done ++ r ∷ others) = subst (Ascends row_cmp) whole up in (
       λ yes.
           let h = is.0 yes in
           let x = (h.1).row in
@@ -54,12 +32,12 @@ double_is all done rest others r t e f up is =
             lesser = record {
               lesser = x;
               there = subst (λ l. Contains l x) (sym whole) (Contains-append_left done (r ∷ others) x (h.1).there);
-              is = record { stands = (h.1).stands; text = (h.1).is; before = lesser_before done others r x rises (h.1).there };
+              is = record { stands = (h.1).stands; text = (h.1).is; before = ap is_lt (before_it row_total done r others rises x (h.1).there) };
             };
           },
       λ d.
           let l = d.lesser in
-          is.1 (d.stands, record { row = l.lesser; there = before_lesser done others r l.lesser rises (subst (λ s. Contains s l.lesser) whole l.there) (l.is).before; stands = (l.is).stands; is = (l.is).text }),
+          is.1 (d.stands, record { row = l.lesser; there = in_front done others r rises l.lesser (subst (λ s. Contains s l.lesser) whole l.there) (l.is).before; stands = (l.is).stands; is = (l.is).text }),
     )
 
 -- ---- one more row

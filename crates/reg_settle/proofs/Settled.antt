@@ -10,6 +10,7 @@ use Rattle.reg_op.specs.Rows.{Row}
 use Rattle.reg_op.specs.declared.status.Status.TheVariants.{Retired}
 use Rattle.reg_op.proofs.OpLemmas.{id_total, is_same_exact}
 use Rattle.reg_report.proofs.ConflictLemmas.{none_in, in_cons, in_head, in_tail, any_of_member, member_of_any}
+use Rattle.reg_report.proofs.FoundLemmas.{OneRow}
 use Rattle.reg_settle.specs.Settling.{SharesKey, Differs, Picks, IsKept, IsRival, Settles}
 
 -- ---- the picked entries
@@ -45,10 +46,6 @@ is_in ids i = by (list_any (is_same i) ids) refl
 stays : (rs : List Row) (keeps ks before retired all : List Id) (i : Id) → Settles rs keeps before ks retired all → Contains retired i → Contains all i
 stays rs keeps [] before retired all i h c = subst (λ l. Contains l i) (sym h) c
 stays rs keeps (k ∷ ks) before retired all i h c = stays rs keeps ks (before ++ k ∷ []) (retired ++ h.2.0) all i h.2.2 (Contains-append_left retired h.2.0 i c)
-
--- each entry has at most one row
-abbrev pub OneRow : List Row → Type 0
-OneRow rs = (a b : Row) → Contains rs a → Contains rs b → a.entry ≡ b.entry → a ≡ b
 
 -- an entry that is not retired and has the key of a kept one is kept, or in the list of those that settling retires
 pub covers : (rs : List Row) (keeps ks before retired all : List Id) → OneRow rs → Settles rs keeps before ks retired all → (keep r : Row) → Contains rs keep → Contains ks keep.entry

@@ -9,18 +9,13 @@ use Rattle.reg_op.specs.Ids.{Id}
 use Rattle.reg_op.specs.Rows.{Row}
 use Rattle.reg_op.specs.declared.status.Status.TheVariants.{Retired}
 use Rattle.reg_report.specs.declared.row.Row.{Row as MadeRow}
+use Rattle.reg_report.specs.declared.key.KeyText.{KeyText}
 use Rattle.reg_report.specs.Conflicts.{KeyBytes, key_cmp, HasKey}
+use Rattle.reg_report.specs.Keys.{key_bytes, text_cmp}
 use Rattle.reg_report.specs.Seen.{row_seen}
-use Rattle.reg_settle.specs.declared.key.KeyText.{KeyText}
 use Rattle.reg_settle.specs.declared.rival.Rival.{Rival}
 
 -- ---- the rows that are kept
-
-abbrev pub key_bytes : KeyText → KeyBytes
-key_bytes k = record { authority = k.authority.now; code = k.code.now }
-
-abbrev pub text_cmp : KeyText → KeyText → Ordering
-text_cmp a b = key_cmp (key_bytes a) (key_bytes b)
 
 -- for each key, the row that was kept last, if there is one
 abbrev pub At : Type 0

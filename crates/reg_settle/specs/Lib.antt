@@ -1,6 +1,5 @@
 pub mod Settling
 pub mod Doubles
 pub mod Names
-pub mod ByEntry
 pub mod Keeping
 pub mod Texts

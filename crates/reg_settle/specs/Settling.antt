@@ -4,6 +4,7 @@ use Rattle.reg_op.specs.Ids.{Id}
 use Rattle.reg_op.specs.Rows.{Row}
 use Rattle.reg_op.specs.declared.status.Status.TheVariants.{Retired}
 use Rattle.reg_report.specs.Conflicts.{KeyBytes, HasKey}
+use Rattle.reg_report.specs.Rows.{HasRow}
 use Rattle.reg_settle.specs.declared.fault.SettleFault.{SettleFault}
 use Rattle.reg_settle.specs.declared.fault.SettleFault.TheVariants as fault
 
@@ -58,11 +59,6 @@ Settles rs keeps before (k ∷ ks) retired all =
 -- the entries that settling retires to keep these entries
 abbrev pub IsSettled : List Row → List Id → List Id → Type 0
 IsSettled rs keeps all = Settles rs keeps [] keeps [] all
-
--- a row of the entry
-pub record HasRow (rs : List Row) (k : Id) (r : Row) : Type 0 where
-  pub there : Contains rs r
-  pub is : r.entry ≡ k
 
 -- why k cannot be kept after others
 abbrev pub IsObjection : List Row → List Id → Id → SettleFault → Type 0

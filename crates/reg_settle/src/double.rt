@@ -2,15 +2,15 @@
 
 ghost use Rattle.std.specs.Prelude.{◌≡◌, ◌≢◌, ◌↔◌, ◌++◌, ◌∷◌, [], List, map, IsTrue, IfOk, OnOk, Some, if◌then◌else◌};
 ghost use Rattle.reg_op.specs.Rows.{Row as OneRow, rows};
+ghost use Rattle.reg_op.specs.Set.{Ascends};
 ghost use Rattle.reg_op.specs.declared.status.Status.TheVariants.{Retired};
+ghost use Rattle.reg_report.specs.Rows.{row_cmp};
 ghost use Rattle.reg_report.specs.Seen.{row_seen};
 ghost use Rattle.reg_settle.specs.Doubles.{AreDoubles};
-ghost use Rattle.reg_settle.specs.ByEntry.{ByEntry};
 ghost use Rattle.reg_settle.specs.Texts.{HasText, HasTexts};
 
-use crate::row::{rows_by_entry, stands};
 use reg_op::OpId;
-use reg_report::Row;
+use reg_report::{Row, is_live, rows};
 use reg_state::Register;
 use std::alloc::{AllocError, Global};
 use std::collections::BTreeSet;
@@ -20,14 +20,14 @@ use std::collections::BTreeSet;
 pub fn doubles(alloc: Global, register: &Register) -> Result<Vec<OpId>, AllocError>
     ensures { IfOk result (λ ids. AreDoubles (rows register.now.ops) ids.items) }
 {
-    let rows = rows_by_entry(alloc, register)?;
+    let rows = rows(alloc, register)?;
     let ids = doubles_among(alloc, &rows)?;
     Ok(ids)
 }
 
 // A row is a double if an earlier row has its text.
 fn doubles_among(alloc: Global, rows: &[Row]) -> Result<Vec<OpId>, AllocError>
-    requires { ByEntry (map row_seen rows.now) }
+    requires { Ascends row_cmp (map row_seen rows.now) }
     ensures { IfOk result (λ ids. AreDoubles (map row_seen rows.now) ids.items) }
 {
     let mut ids = Vec::new(alloc);
@@ -46,7 +46,7 @@ fn is_again<'a>(texts: &mut BTreeSet<&'a [u8]>, row: &'a Row) -> Result<bool, Al
     ensures again { (done : List OneRow) → HasTexts texts.old done → IfOk result (λ again. IsTrue again ↔ (((row_seen row.now).status ≢ Some Retired) × HasText done (row_seen row.now).definition)) }
     ensures texts { (done : List OneRow) → HasTexts texts.old done → OnOk result (HasTexts texts.new (done ++ row_seen row.now ∷ [])) }
 {
-    if !stands(row) {
+    if !is_live(row) {
         return Ok(false);
     }
     let added = texts.insert(row.definition.as_bytes())?;

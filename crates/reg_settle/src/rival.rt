@@ -1,18 +1,16 @@
 //! The rows that may be retired so that others of their keys are kept.
 
-ghost use Rattle.std.specs.Prelude.{◌≡◌, ◌↔◌, ◌++◌, map, filter, not, IsTrue, IfOk, OnOk};
+ghost use Rattle.std.specs.Prelude.{◌≡◌, ◌++◌, map, filter, not, IfOk, OnOk};
 ghost use Rattle.std.specs.List.Sorted.{IsSorted, IsPermutation};
-ghost use Rattle.std.specs.List.{Contains};
 ghost use Rattle.std.specs.Ordering.{is_lt};
 ghost use Rattle.reg_op.specs.Ids.{id_cmp};
 ghost use Rattle.reg_report.specs.Conflicts.{key_cmp};
+ghost use Rattle.reg_report.specs.Keys.{key_bytes};
 ghost use Rattle.reg_report.specs.Seen.{row_seen};
-ghost use Rattle.reg_settle.specs.Keeping.{key_bytes, entry_of, rival_cmp, is_of_key, AddsRival, AreRivals, AreRivalsByKey};
+ghost use Rattle.reg_settle.specs.Keeping.{entry_of, rival_cmp, is_of_key, AddsRival, AreRivals, AreRivalsByKey};
 
-use crate::key::{KeyText, key_of};
-use crate::row::stands;
 use reg_op::OpId;
-use reg_report::Row;
+use reg_report::{KeyText, Row, is_among, is_live, key_of};
 use std::alloc::{AllocError, Global};
 
 /// A row whose entry is neither retired nor kept.
@@ -20,14 +18,6 @@ use std::alloc::{AllocError, Global};
 pub struct Rival<'a> {
     pub key: KeyText<'a>,
     pub row: &'a Row,
-}
-
-// Whether the id is in the list.
-fn is_among(ids: &[OpId], id: OpId) -> bool
-    requires { IsSorted id_cmp ids.now }
-    ensures { IsTrue result ↔ Contains ids.now id }
-{
-    ids.binary_search(&id).is_ok()
 }
 
 // Appends the row, unless its entry is retired or kept.
@@ -39,7 +29,7 @@ fn push_rival<'a>(
     requires { IsSorted id_cmp keeps.now }
     ensures { OnOk result (AddsRival keeps.now (row_seen row.now) rivals.old.items rivals.new.items) }
 {
-    if !stands(row) {
+    if !is_live(row) {
         return Ok(());
     }
     if is_among(keeps, row.entry) {

@@ -1,22 +1,23 @@
 //! The entries to retire so that some entries are kept.
 
-ghost use Rattle.std.specs.Prelude.{◌≡◌, ◌≢◌, ◌⊎◌, List, map, filter, IfOk, OnOk, IfErr, Some};
+ghost use Rattle.std.specs.Prelude.{◌≡◌, ◌≢◌, ◌↔◌, ◌⊎◌, List, map, filter, IsTrue, IfOk, OnOk, IfErr, Some};
 ghost use Rattle.std.specs.List.Sorted.{IsSorted};
 ghost use Rattle.reg_op.specs.Ids.{Id};
 ghost use Rattle.reg_op.specs.Rows.{rows};
+ghost use Rattle.reg_op.specs.Set.{Ascends};
 ghost use Rattle.reg_op.specs.declared.status.Status.TheVariants.{Retired};
+ghost use Rattle.reg_report.specs.Keys.{key_bytes};
+ghost use Rattle.reg_report.specs.Rows.{row_cmp, HasRow};
 ghost use Rattle.reg_report.specs.Seen.{row_seen};
 ghost use Rattle.reg_settle.specs.declared.fault.SettleFault.TheVariants as fault;
-ghost use Rattle.reg_settle.specs.Settling.{IsSettled, HasRow, IsObjection, IsUnsettled};
-ghost use Rattle.reg_settle.specs.ByEntry.{ByEntry};
-ghost use Rattle.reg_settle.specs.Keeping.{key_bytes, At, Holds, with_row, rival_cmp, is_of_key, Retires, IsOther};
+ghost use Rattle.reg_settle.specs.Settling.{IsSettled, IsObjection, IsUnsettled};
+ghost use Rattle.reg_settle.specs.Keeping.{At, Holds, with_row, rival_cmp, is_of_key, Retires, IsOther};
 
 use crate::fault::SettleFault;
-use crate::key::{KeyText, keep, key_of};
+use crate::key::keep;
 use crate::rival::{Rival, push_rivals, rivals_by_key};
-use crate::row::{find_row, rows_by_entry, shares_text, stands};
 use reg_op::OpId;
-use reg_report::Row;
+use reg_report::{KeyText, Row, find_row, is_live, key_of, rows};
 use reg_state::Register;
 use std::alloc::Global;
 use std::collections::BTreeMap;
@@ -31,7 +32,7 @@ pub fn to_retire(
     ensures ok { IfOk result (λ ids. IsSettled (rows register.now.ops) keeps.now ids.items) }
     ensures fault { IfErr result (λ f. IsUnsettled (rows register.now.ops) keeps.now f ⊎ (f ≡ fault.Memory)) }
 {
-    let rows = match rows_by_entry(alloc, register) {
+    let rows = match rows(alloc, register) {
         Ok(rows) => rows,
         Err(_) => return Err(SettleFault::Memory),
     };
@@ -42,7 +43,7 @@ pub fn to_retire(
 }
 
 fn settled(alloc: Global, rows: &[Row], keeps: &[OpId]) -> Result<Vec<OpId>, SettleFault>
-    requires { ByEntry (map row_seen rows.now) }
+    requires { Ascends row_cmp (map row_seen rows.now) }
     ensures ok { IfOk result (λ ids. IsSettled (map row_seen rows.now) keeps.now ids.items) }
     ensures fault { IfErr result (λ f. IsUnsettled (map row_seen rows.now) keeps.now f ⊎ (f ≡ fault.Memory)) }
 {
@@ -67,17 +68,24 @@ fn settled(alloc: Global, rows: &[Row], keeps: &[OpId]) -> Result<Vec<OpId>, Set
 
 // The row of an entry that is not retired.
 fn standing_row<'a>(rows: &'a [Row], entry: OpId) -> Result<&'a Row, SettleFault>
-    requires { ByEntry (map row_seen rows.now) }
+    requires { Ascends row_cmp (map row_seen rows.now) }
     ensures ok { IfOk result (λ row. HasRow (map row_seen rows.now) entry (row_seen row.now) × ((row_seen row.now).status ≢ Some Retired)) }
     ensures fault { (before : List Id) → IfErr result (IsObjection (map row_seen rows.now) before entry) }
 {
     let Some(row) = find_row(rows, entry) else {
         return Err(SettleFault::UnknownEntry(entry));
     };
-    if !stands(row) {
+    if !is_live(row) {
         return Err(SettleFault::AlreadyRetired(entry));
     }
     Ok(row)
+}
+
+// Whether they have the same text.
+fn shares_text(one: &Row, other: &Row) -> bool
+    ensures { IsTrue result ↔ ((row_seen one.now).definition ≡ (row_seen other.now).definition) }
+{
+    one.definition.as_bytes() == other.definition.as_bytes()
 }
 
 // Keeps a row of the key. The first kept row of a key retires the rivals of the key.

@@ -1,6 +1,6 @@
 //! Keeps a register in two steps, for a caller that does something between them.
 
-ghost use Rattle.std.specs.Prelude.{◌≡◌, ◌⊎◌, List, ℕ, IsTrue, OnOk, IfOk, IfErr, IsErrOf};
+ghost use Rattle.std.specs.Prelude.{◌≡◌, ◌⊎◌, ℕ, IsTrue, OnOk, IfOk, IfErr, IsErrOf};
 ghost use Rattle.byte_disk.specs.Disk.{Only, LeavesOnly};
 ghost use Rattle.byte_shelf.specs.Shelf.{EndsWithin, HasNoHead};
 ghost use Rattle.byte_shelf.specs.Keep.{AddsNothing, CountsFault};

@@ -1,13 +1,13 @@
 -- The marks that a target covers, and the order of marks.
 use Rattle.std.proofs.Common.{◌≡◌, Bool, true, false, ◌&&◌, refl, sym, ap, ◌∙◌, subst, Option, None, Some}
 use Rattle.std.proofs.lemmas.Bool.{true≢false, and_from, and_parts}
-use Rattle.std.specs.Cmp.{Equal-is, tied_itself, tied_then}
+use Rattle.std.specs.Cmp.{Equal-is, tied_then}
 use Rattle.std.specs.Option.{option_cmp}
 use Rattle.std.specs.Ordering.{is_lt, is_eq, eq_by_cmp, ordering_then, ordering_reverse}
 use Rattle.std.specs.declared.cmp.Ordering.{Ordering}
 use Rattle.std.specs.declared.cmp.Ordering.TheVariants.{Less, Equal, Greater}
 use Rattle.reg_op.specs.Ids.{Id, id_cmp, is_same, is_before}
-use Rattle.reg_op.proofs.OpLemmas.{id_total, is_same_back, is_same_chain}
+use Rattle.reg_op.proofs.OpLemmas.{is_same_back, is_same_chain}
 use Rattle.reg_state.specs.declared.mark.Mark.{Mark}
 use Rattle.reg_state.specs.declared.mark.Target.{Target}
 use Rattle.reg_state.specs.MarkSets.{mark_cmp, lessens_by, lessens, covers_by, covers, BeginsAt}
@@ -93,13 +93,6 @@ covers_chain t m q h k =
     let a = and_parts _ _ h in
     let b = and_parts _ _ k in
     and_from _ _ (is_same_chain t.entry m.target.entry q.target.entry a.0 b.0) (covers_by_chain t.by m.target.by q.target.by a.1 b.1)
-
-covers_by_itself : (x : Option Id) → covers_by x x ≡ true
-covers_by_itself None = refl
-covers_by_itself (Some n) = ap is_eq (tied_itself id_total n)
-
-pub covers_itself : (m : Mark) → covers m.target m ≡ true
-covers_itself m = and_from _ _ (ap is_eq (tied_itself id_total m.target.entry)) (covers_by_itself m.target.by)
 
 -- ---- the marks that a target covers begin at the target
 

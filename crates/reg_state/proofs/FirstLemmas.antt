@@ -8,7 +8,7 @@ use Rattle.std.specs.List.Sorted.{IsSorted, IsPermutation}
 use Rattle.std.specs.Cmp.{tied_itself, Equal-is, both_ways}
 use Rattle.std.specs.Ordering.{is_lt, is_eq, eq_by_cmp}
 use Rattle.reg_op.specs.Set as set
-use Rattle.reg_op.specs.Set.{contains, contains-from_list, same_set}
+use Rattle.reg_op.specs.Set.{contains-from_list, same_set}
 use Rattle.reg_op.proofs.FiniteLemmas.{any_from_member, member_from_any, contains-topmost}
 use Rattle.reg_state.specs.declared.mark.Mark.{Mark}
 use Rattle.reg_state.specs.declared.mark.Target.{Target}

@@ -10,6 +10,7 @@ use Rattle.std.specs.Option.{option_cmp}
 use Rattle.std.specs.Ordering.{is_lt, is_eq, eq_by_cmp, ordering_then}
 use Rattle.std.specs.declared.cmp.Ordering.{Ordering}
 use Rattle.std.specs.declared.cmp.Ordering.TheVariants.{Less, Equal, Greater}
+use mathlib.Core.Bool.{or-false}
 use Rattle.reg_op.specs.Set as set
 use Rattle.reg_op.specs.Set.{contains, contains-from_list, contains-insert, same_set}
 use Rattle.reg_op.specs.Finite.{any}
@@ -29,10 +30,6 @@ use Rattle.reg_state.proofs.MarkMergeLemmas.{first_by, by_chain}
 and_false : (b : Bool) → (b && false) ≡ false
 and_false true = refl
 and_false false = refl
-
-or_false : (b : Bool) → (b || false) ≡ b
-or_false true = refl
-or_false false = refl
 
 and_assoc : (a b c : Bool) → ((a && b) && c) ≡ (a && (b && c))
 and_assoc true b c = refl
@@ -60,11 +57,11 @@ then_less Greater = refl
 parts_by : (r : Ordering) (x y : Option Id) (before : Bool)
     → (is_eq r && lessens_by x y before)
     ≡ ((is_eq (ordering_then r (option_cmp id_cmp x y)) && before) || (is_some y && is_eq (ordering_then r (option_cmp id_cmp x None))))
-parts_by r None None before = sym ((λ k. (then_equal r k && before) || false) ∙ or_false _)
+parts_by r None None before = sym ((λ k. (then_equal r k && before) || false) ∙ or-false _)
 parts_by r None (Some o) before = and_true (is_eq r) ∙ sym (λ k. (then_less r k && before) || then_equal r k)
 parts_by r (Some n) None before = and_false (is_eq r) ∙ sym (λ k. (then_greater r k && before) || false)
 parts_by r (Some n) (Some o) before =
-    sym ((λ k. (sym (tied_then r (id_cmp n o)) k && before) || then_greater r k) ∙ or_false _ ∙ and_assoc (is_eq r) (is_same n o) before)
+    sym ((λ k. (sym (tied_then r (id_cmp n o)) k && before) || then_greater r k) ∙ or-false _ ∙ and_assoc (is_eq r) (is_same n o) before)
 
 lessens_parts : (p m : Mark) → lessens p m ≡ ((is_at m.target p && is_before p.id m.id) || (is_some m.target.by && is_at (record { entry = m.target.entry; by = None }) p))
 lessens_parts p m = parts_by (id_cmp p.target.entry m.target.entry) p.target.by m.target.by (is_before p.id m.id)

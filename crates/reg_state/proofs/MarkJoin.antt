@@ -7,7 +7,7 @@ use Rattle.std.specs.declared.convert.Infallible.{Infallible}
 use Rattle.std.specs.Cmp.{tied_itself, both_ways}
 use Rattle.std.specs.Ordering.{is_eq, eq_by_cmp}
 use Rattle.reg_op.specs.Set as set
-use Rattle.reg_op.specs.Set.{contains, union, items-from_list, contains-from_list, contains-insert, contains-union, same_set}
+use Rattle.reg_op.specs.Set.{contains, union, contains-from_list, contains-insert, contains-union, same_set}
 use Rattle.reg_op.specs.Ids.{Id, is_before}
 use Rattle.reg_op.specs.Finite.{any}
 use Rattle.reg_op.specs.Operations.{Op, Ops, op_cmp, replaces, replaces_body, kept, one}

@@ -15,6 +15,7 @@ use Rattle.reg_op.specs.Ids.{id_cmp, is_same, is_before}
 use Rattle.reg_op.specs.Operations.{replaces, replaces_body}
 use Rattle.reg_op.proofs.FiniteLemmas.{list_any-or}
 use Rattle.std.proofs.lemmas.List.Folds.{list_any-append}
+use mathlib.Core.Bool.{or-false}
 use Rattle.reg_op.specs.declared.operation.OpBody.{OpBody as Body}
 use Rattle.reg_op.specs.Status.{is_retirement, is_supersession}
 use Rattle.reg_op.proofs.OpLemmas.{id_total}
@@ -48,22 +49,14 @@ then_less Less = refl
 then_less Equal = refl
 then_less Greater = refl
 
-or_false : (a : Bool) → (a || false) ≡ a
-or_false true = refl
-or_false false = refl
-
 and_assoc : (a b c : Bool) → ((a && b) && c) ≡ (a && (b && c))
 and_assoc true b c = refl
 and_assoc false b c = refl
 
-at_retire : (e entry : Id) (by : Option Id) (before : Bool) → (is_eq (ordering_then (id_cmp e entry) (option_cmp id_cmp by None)) && before) ≡ replaces_body before (target_body e by) (Retire entry)
-at_retire e entry None before = ap (λ b. b && before) (then_equal (id_cmp e entry))
-at_retire e entry (Some n) before = ap (λ b. b && before) (then_greater (id_cmp e entry))
-
 at_supersede : (e old newer : Id) (by : Option Id) (before : Bool)
     → (is_eq (ordering_then (id_cmp e old) (option_cmp id_cmp by None)) || (is_eq (ordering_then (id_cmp e old) (option_cmp id_cmp by (Some newer))) && before)) ≡ replaces_body before (target_body e by) (Supersede old newer)
 at_supersede e old newer None before =
-    (λ i. then_equal (id_cmp e old) i || (then_less (id_cmp e old) i && before)) ∙ or_false _
+    (λ i. then_equal (id_cmp e old) i || (then_less (id_cmp e old) i && before)) ∙ or-false _
 at_supersede e old newer (Some n) before =
     (λ i. then_greater (id_cmp e old) i || (sym (tied_then (id_cmp e old) (id_cmp n newer)) i && before)) ∙ and_assoc (is_same e old) (is_same n newer) before
 
@@ -77,9 +70,6 @@ none_any (m ∷ ms) = none_any ms
 
 pub replaced_enter : (ms : List Mark) (i : Id) (text note : List ℕ) → false ≡ list_any (λ m. replaces (op_of m) (record { id = i; body = Enter text; note = note })) ms
 replaced_enter ms i text note = sym (none_any ms) ∙ same_any _ _ (λ m. at_enter m.target.entry text m.target.by (is_before m.id i)) ms
-
-pub replaced_retire : (ms : List Mark) (i entry : Id) (note : List ℕ) → list_any (λ m. is_at (record { entry = entry; by = None }) m && is_before m.id i) ms ≡ list_any (λ m. replaces (op_of m) (record { id = i; body = Retire entry; note = note })) ms
-replaced_retire ms i entry note = same_any _ _ (λ m. at_retire m.target.entry entry m.target.by (is_before m.id i)) ms
 
 pub replaced_supersede : (ms : List Mark) (i old newer : Id) (note : List ℕ)
     → (list_any (λ m. is_at (record { entry = old; by = None }) m) ms || list_any (λ m. is_at (record { entry = old; by = Some newer }) m && is_before m.id i) ms) ≡ list_any (λ m. replaces (op_of m) (record { id = i; body = Supersede old newer; note = note })) ms
@@ -102,16 +92,16 @@ marks_retire e os = through _ (λ o. is_retirement e o.body) (λ i b n. each i b
   where
     each : (i : Id) (b : Body) → list_any (λ m. is_at (record { entry = e; by = None }) m) (marks_of_body i b) ≡ is_retirement e b
     each i (Enter text) = refl
-    each i (Supersede old newer) = or_false _ ∙ then_greater (id_cmp old e)
-    each i (Retire entry) = or_false _ ∙ then_equal (id_cmp entry e) ∙ same_back entry e
+    each i (Supersede old newer) = or-false _ ∙ then_greater (id_cmp old e)
+    each i (Retire entry) = or-false _ ∙ then_equal (id_cmp entry e) ∙ same_back entry e
 
 marks_supersede : (e n : Id) (os : List Op) → list_any (λ m. is_at (record { entry = e; by = Some n }) m) (marks_of os) ≡ list_any (λ o. is_supersession e (is_same n) o.body) os
 marks_supersede e n os = through _ (λ o. is_supersession e (is_same n) o.body) (λ i b m. each i b) os
   where
     each : (i : Id) (b : Body) → list_any (λ m. is_at (record { entry = e; by = Some n }) m) (marks_of_body i b) ≡ is_supersession e (is_same n) b
     each i (Enter text) = refl
-    each i (Supersede old newer) = or_false _ ∙ sym (tied_then (id_cmp old e) (id_cmp newer n)) ∙ (λ k. same_back old e k && same_back newer n k)
-    each i (Retire entry) = or_false _ ∙ then_less (id_cmp entry e)
+    each i (Supersede old newer) = or-false _ ∙ sym (tied_then (id_cmp old e) (id_cmp newer n)) ∙ (λ k. same_back old e k && same_back newer n k)
+    each i (Retire entry) = or-false _ ∙ then_less (id_cmp entry e)
 
 marks_touch : (e : Id) (os : List Op)
     → list_any (λ m. is_same e m.target.entry) (marks_of os) ≡ (list_any (λ o. is_retirement e o.body) os || list_any (λ o. is_supersession e (λ n. true) o.body) os)
@@ -125,7 +115,7 @@ marks_touch e os =
 
     each : (i : Id) (b : Body) → list_any (λ m. is_same e m.target.entry) (marks_of_body i b) ≡ (is_retirement e b || is_supersession e (λ n. true) b)
     each i (Enter text) = refl
-    each i (Supersede old newer) = or_false _ ∙ and_true (is_same e old)
+    each i (Supersede old newer) = or-false _ ∙ and_true (is_same e old)
     each i (Retire entry) = refl
 
 -- ---- tests on the least marks

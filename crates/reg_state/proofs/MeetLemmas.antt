@@ -1,6 +1,6 @@
 -- Whether a run overlaps any run of a list is known from the first one that does not end before it.
 use Rattle.std.proofs.Common.{◌≡◌, ℕ, ◌+◌, ◌-◌, ◌<◌, ◌≤◌, zero, suc, max, min, Bool, true, false, leb, List, [], ◌∷◌, length, get_or, sym, ap, ◌∙◌, subst, inl, inr, ◌⊎◌, arith}
-use Rattle.std.proofs.lemmas.Bool.{true≢false, and_from, and_parts, or_cases, or_left, or_right, false_from_ne_true}
+use Rattle.std.proofs.lemmas.Bool.{true≢false, and_from, and_parts, or_cases, or_left, or_right, false_from_ne_true, leb-true}
 use Rattle.std.proofs.lemmas.Bool.Decides.{nat_tests}
 use Rattle.std.proofs.lemmas.List.Folds.{list_any_at}
 use Rattle.std.specs.List.{list_any}
@@ -16,9 +16,6 @@ use Rattle.reg_state.proofs.SearchLemmas.{IsUpTo, IsPast, within, in_run, ends, 
 
 -- ---- runs that overlap
 
-leb_yes : (m n : ℕ) → leb m n ≡ true → m ≤ n
-leb_yes m n e = grind (arith, nat_tests)
-
 pub record Overlap (r s : Run) : Type 0 where
   pub replica : r.replica ≡ s.replica
   pub low : r.low ≤ r.high
@@ -28,7 +25,7 @@ pub record Overlap (r s : Run) : Type 0 where
 pub overlap_of : (r s : Run) → overlap r s ≡ true → Overlap r s
 overlap_of r s h =
     let p = and_parts _ _ h in
-    let q : max r.low s.low ≤ min r.high s.high = leb_yes _ _ p.1 in
+    let q : max r.low s.low ≤ min r.high s.high = leb-true _ _ p.1 in
     record { replica = same_replica r.replica s.replica p.0; low = omega (arith, q); from = omega (arith, q); to = omega (arith, q) }
 
 pub of_overlap : (r s : Run) → IsRun s → Overlap r s → overlap r s ≡ true
@@ -72,7 +69,7 @@ overlaps_meet rs r h =
     (ap (is_in_run (id_at r.replica c)) (x.4 x.0) ∙ in_run (id_at r.replica c) x.0 (record { replica = o.replica; low = omega arith; high = omega (arith, both) })))
   where
     common : (r s : Run) → overlap r s ≡ true → max r.low s.low ≤ min r.high s.high
-    common r s h = leb_yes (max r.low s.low) (min r.high s.high) (and_parts (is_eq (replica_cmp r.replica s.replica)) (leb (max r.low s.low) (min r.high s.high)) h).1
+    common r s h = leb-true (max r.low s.low) (min r.high s.high) (and_parts (is_eq (replica_cmp r.replica s.replica)) (leb (max r.low s.low) (min r.high s.high)) h).1
 
 run_of : (rs : List Run) → AreRuns rs → (j : ℕ) (d : Run) → j < length rs → IsRun (get_or rs j d)
 run_of [] are j d h = absurd (omega arith)

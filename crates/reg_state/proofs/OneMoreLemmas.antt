@@ -29,9 +29,6 @@ use Rattle.reg_state.proofs.PutLemmas.{has_put}
 use Rattle.reg_state.proofs.TableLemmas.{marked_off}
 use Rattle.reg_state.proofs.TakeLemmas.{ids_one, with_one}
 
-eq_of : (q o : Op) → eq_by_cmp op_cmp q o ≡ true → q ≡ o
-eq_of q o h = op_exact q o ((Equal-is (op_cmp q o)).0 h)
-
 -- the union with a subset changes nothing
 union_there : {K : Type 0} {R : K → K → Ordering} (o : IsTotalOrder R) (same : IsAntisymmetric R) (s t : Set R) → ((x : K) → contains t x ≡ true → contains s x ≡ true) → s ≡ union s t
 union_there o same s t within = same_set o same _ _ (λ x. both_ways _ _

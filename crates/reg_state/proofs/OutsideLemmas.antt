@@ -116,10 +116,6 @@ pub record IsOn (low : ℕ) (lefts rights : List Run) (w : Walk) : Type 0 where
   pub same : (i : Id) → is_outside (runs_from low lefts) rights i ≡ is_left w i
   pub spans : spans_of (runs_from low lefts) ≤ spans_of (lefts_of w)
 
-pub on_none : (low : ℕ) (lefts rights : List Run) (w : Walk) → IsOn low lefts rights w → length lefts ≡ 0 → (i : Id) → is_left w i ≡ false
-on_none low [] rights w on h i = sym (on.same i)
-on_none low (x ∷ xs) rights w on h i = absurd (omega arith)
-
 module _ (low : ℕ) (first : Run) (others : List Run) (w : Walk) where
   abbrev run : Run
   run = from_count low first
@@ -356,13 +352,6 @@ went_on out w new left right run is taken =
     or_assoc : (a b c : Bool) → ((a || b) || c) ≡ (a || (b || c))
     or_assoc true b c = refl
     or_assoc false b c = refl
-
-pub all_out : (out : List Run) (w : Walk) (left right : List Run) → IsGoing out w left right → ((i : Id) → is_left w i ≡ false) → (i : Id) → is_in_runs i out ≡ is_outside left right i
-all_out out w left right is none i = sym (or_false (is_in_runs i out)) ∙ (λ k. is_in_runs i out || sym (none i) k) ∙ is.outside i
-  where
-    or_false : (a : Bool) → (a || false) ≡ a
-    or_false true = refl
-    or_false false = refl
 
 -- ---- the least id
 

@@ -8,7 +8,7 @@ use Rattle.std.specs.List.Sorted.{IsPartitionPoint}
 use Rattle.std.specs.Cmp.{Equal-is, tied_itself}
 use Rattle.std.specs.Ordering.{is_eq, eq_by_cmp}
 use Rattle.reg_op.specs.Set as set
-use Rattle.reg_op.specs.Set.{union, contains-from_list}
+use Rattle.reg_op.specs.Set.{union}
 use Rattle.reg_op.specs.Ids.{Id, Ids, is_same, is_before}
 use Rattle.reg_op.specs.Operations.{Op, IsOperation, op_cmp, one, ids, replaces, OneBody}
 use Rattle.reg_op.specs.declared.operation.OpBody.{OpBody as Body}

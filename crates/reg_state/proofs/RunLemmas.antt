@@ -10,6 +10,7 @@ use Rattle.std.specs.declared.cmp.Ordering.{Ordering}
 use Rattle.std.specs.declared.cmp.Ordering.TheVariants.{Less, Equal, Greater}
 use Rattle.std.specs.Cmp.{tied_then, unsigned_tied, Equal-is, tied_itself}
 use Rattle.std.proofs.lemmas.Cmp.{nat_list_cmp_total}
+use mathlib.Core.Bool.{or-false}
 use Rattle.reg_op.specs.Set as set
 use Rattle.reg_op.specs.Set.{contains, contains-from_list}
 use Rattle.reg_op.specs.Ids.{Id, IsId, id_cmp}
@@ -71,11 +72,6 @@ in_runs_list i (r ∷ rs) =
 pub contains-seen_of : (rs : List Run) (i : Id) → contains (seen_of rs) i ≡ is_in_runs i rs
 contains-seen_of rs i = contains-from_list id_total (ids_of_runs rs) i ∙ in_runs_list i rs
 
-pub AreRuns-front : (xs : List Run) (l : Run) → AreRuns (xs ++ l ∷ []) → AreRuns xs
-AreRuns-front [] l h = tt
-AreRuns-front (x ∷ []) l h = h.0
-AreRuns-front (x ∷ y ∷ ys) l h = (h.0, h.1, AreRuns-front (y ∷ ys) l h.2)
-
 pub AreRuns-last : (xs : List Run) (l : Run) → AreRuns (xs ++ l ∷ []) → IsRun l
 AreRuns-last [] l h = h
 AreRuns-last (x ∷ []) l h = h.2
@@ -110,10 +106,6 @@ AllBegin-push (x ∷ xs) l s h k = (h.0, AllBegin-push xs l s h.1 k)
 pub AllBegin-parts : (xs : List Run) (l s : Run) → AllBegin (xs ++ l ∷ []) s → AllBegin xs s × BeginsBy l s
 AllBegin-parts [] l s h = (tt, h.0)
 AllBegin-parts (x ∷ xs) l s h = let rest = AllBegin-parts xs l s h.1 in ((h.0, rest.0), rest.1)
-
-or-false : (a : Bool) → (a || false) ≡ a
-or-false true = refl
-or-false false = refl
 
 pub in_runs-push : (i : Id) (xs : List Run) (l : Run) → is_in_runs i (xs ++ l ∷ []) ≡ (is_in_runs i xs || is_in_run i l)
 in_runs-push i xs l = list_any-append (is_in_run i) xs (l ∷ []) ∙ ap (λ b. is_in_runs i xs || b) (or-false (is_in_run i l))
@@ -317,34 +309,6 @@ pub record IsPushing (out rest old runs : List Run) : Type 0 where
   pub out_ids : EndInIds out
   pub rest_ids : EndInIds rest
   pub covered : (i : Id) → (is_in_runs i out || is_in_runs i rest) ≡ (is_in_runs i old || is_in_runs i runs)
-
-or_assoc_back : (a b c : Bool) → ((a || b) || c) ≡ (a || (b || c))
-or_assoc_back true b c = refl
-or_assoc_back false b c = refl
-
-pub pushed_next : (out new rest more old runs : List Run) (a : Run) → IsPushing out rest old runs → rest ≡ a ∷ more → IsPushed out new a → IsPushing new more old runs
-pushed_next out new rest more old runs a is r pushed =
-    let a_runs : AreRuns (a ∷ more) = subst AreRuns r is.rest_runs in
-    let a_ids : EndInIds (a ∷ more) = subst EndInIds r is.rest_ids in
-    record {
-      out_runs = pushed.runs;
-      rest_runs = rest_runs a more a_runs;
-      next = rest_begins new a more a_runs pushed.order;
-      out_ids = pushed.ids is.out_ids a_ids.0;
-      rest_ids = a_ids.1;
-      covered = λ i.
-          ap (λ x. x || is_in_runs i more) (pushed.covered i)
-          ∙ or_assoc_back (is_in_runs i out) (is_in_run i a) (is_in_runs i more)
-          ∙ ap (λ xs. is_in_runs i out || is_in_runs i xs) (sym r)
-          ∙ is.covered i;
-    }
-
-pub pushed_first : (rest more : List Run) (a : Run) → rest ≡ a ∷ more → AreRuns rest → IsRun a
-pushed_first rest more a r h = first_run a more (subst AreRuns r h)
-
-pub pushed_end : (out rest old runs : List Run) → IsPushing out rest old runs → length rest ≡ 0 → (i : Id) → is_in_runs i out ≡ (is_in_runs i old || is_in_runs i runs)
-pushed_end out [] old runs is h i = sym (or-false (is_in_runs i out)) ∙ is.covered i
-pushed_end out (x ∷ xs) old runs is h i = absurd (omega arith)
 
 -- ---- a run above all others
 

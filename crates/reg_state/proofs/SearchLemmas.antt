@@ -1,9 +1,9 @@
 -- A binary search in a list of runs.
 use Rattle.std.proofs.Common.{ltb}
 use Rattle.std.specs.Bool.{OnTrue, OnFalse}
-use Rattle.std.proofs.Common.{◌≡◌, ℕ, ◌+◌, ◌-◌, ◌<◌, ◌≤◌, zero, suc, Bool, true, false, not, ◌||◌, leb, List, [], ◌∷◌, length, get_or, refl, sym, ap, ◌∙◌, subst, inl, inr, ◌⊎◌, arith}
+use Rattle.std.proofs.Common.{◌≡◌, ℕ, ◌+◌, ◌-◌, ◌<◌, ◌≤◌, zero, suc, Bool, true, false, not, ◌||◌, List, [], ◌∷◌, length, get_or, refl, sym, ap, ◌∙◌, subst, inl, inr, ◌⊎◌, arith}
 use Rattle.std.specs.Prelude.{All}
-use Rattle.std.proofs.lemmas.Bool.{true≢false, and_from, and_parts, false_from_ne_true}
+use Rattle.std.proofs.lemmas.Bool.{true≢false, and_from, and_parts, false_from_ne_true, leb-true, le-leb}
 use Rattle.std.proofs.lemmas.Bool.Decides.{nat_tests}
 use Rattle.std.proofs.lemmas.List.Folds.{list_any_at}
 use Rattle.std.specs.List.Sorted.{IsPartitionPoint}
@@ -50,22 +50,16 @@ pub record IsWithin (i : Id) (r : Run) : Type 0 where
   pub low : r.low ≤ i.count
   pub high : i.count ≤ r.high
 
-leb_yes : (m n : ℕ) → leb m n ≡ true → m ≤ n
-leb_yes m n e = grind (arith, nat_tests)
-
-yes_leb : (m n : ℕ) → m ≤ n → leb m n ≡ true
-yes_leb m n e = grind (arith, nat_tests)
-
 pub within : (i : Id) (r : Run) → is_in_run i r ≡ true → IsWithin i r
 within i r h =
     let p = and_parts _ _ h in
     let q = and_parts _ _ p.1 in
-    record { replica = same_replica i.replica r.replica p.0; low = leb_yes r.low i.count q.0; high = leb_yes i.count r.high q.1 }
+    record { replica = same_replica i.replica r.replica p.0; low = leb-true r.low i.count q.0; high = leb-true i.count r.high q.1 }
 
 pub in_run : (i : Id) (r : Run) → IsWithin i r → is_in_run i r ≡ true
 in_run i r w =
     and_from _ _ (subst (λ x. is_eq (replica_cmp i.replica x) ≡ true) w.replica (replica_itself i.replica))
-    (and_from _ _ (yes_leb r.low i.count w.low) (yes_leb i.count r.high w.high))
+    (and_from _ _ (le-leb r.low i.count w.low) (le-leb i.count r.high w.high))
 
 -- ---- whether a run ends before an id
 

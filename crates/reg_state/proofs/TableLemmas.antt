@@ -10,7 +10,7 @@ use Rattle.std.specs.Cmp.{Equal-is, tied_itself}
 use Rattle.std.specs.Ordering.{is_eq, eq_by_cmp}
 use Rattle.reg_op.specs.Set as set
 use Rattle.std.specs.declared.convert.Infallible.{Infallible}
-use Rattle.reg_op.specs.Set.{contains, union, items, Ascends, items-from_list, contains-from_list, same_set}
+use Rattle.reg_op.specs.Set.{contains, union, items, contains-from_list, same_set}
 use Rattle.reg_op.specs.Ids.{Id}
 use Rattle.reg_op.specs.Operations.{Op}
 use Rattle.reg_op.specs.declared.operation.OpBody.{OpBody as Body}

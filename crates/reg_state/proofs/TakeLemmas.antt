@@ -1,7 +1,7 @@
 -- The register of one operation, and the join with it.
 use Rattle.std.proofs.Common.{◌≡◌, ℕ, ◌+◌, ◌-◌, List, [], ◌∷◌, map, None, Ok, sym, ap, ◌∙◌, subst, arith}
 use Rattle.reg_op.specs.Set as set
-use Rattle.reg_op.specs.Set.{contains, union, items-from_list}
+use Rattle.reg_op.specs.Set.{union, items-from_list}
 use Rattle.reg_op.specs.Ids.{Id, Ids}
 use Rattle.reg_op.specs.Operations.{Op, IsOperation, op_cmp, one, ids, OneBody}
 use Rattle.reg_op.specs.Contents.{Content, state, merged, joined, joined_unless, clash_of, IsContent}

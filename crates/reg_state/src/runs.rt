@@ -1,6 +1,6 @@
 //! Lists of runs.
 
-ghost use Rattle.std.specs.Prelude.{◌≡◌, ◌||◌, IfOk, OnOk, OnErr};
+ghost use Rattle.std.specs.Prelude.{◌≡◌, ◌||◌, IfOk, OnOk};
 ghost use Rattle.reg_op.specs.Ids.{Id, IsId};
 ghost use Rattle.reg_state.specs.Runs.{is_in_run, is_in_runs, last_of, AreRuns, EndInIds, IsRun, AllBegin, BeginsBy, NextBegins};
 

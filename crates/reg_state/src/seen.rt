@@ -1,12 +1,11 @@
 //! The ids that were seen, and their join.
 
-ghost use Rattle.std.specs.Prelude.{◌≡◌, List, IfOk, OnOk, OnErr};
+ghost use Rattle.std.specs.Prelude.{◌≡◌, IfOk, OnOk, OnErr};
 ghost use Rattle.std.specs.Bool.{OnTrue, OnFalse};
 ghost use Rattle.std.specs.List.{list_any};
 ghost use Rattle.reg_op.specs.Set as set;
-ghost use Rattle.reg_op.specs.Ids.{Id, IsId};
 ghost use Rattle.reg_op.specs.Pieces.{first_missing};
-ghost use Rattle.reg_state.specs.Runs.{is_in_runs, ids_of_run, last_of, meets, overlap, seen_of, AreRuns, EndInIds, AllIds, AllUnder, IsAbove, IsGreatest, IsLastCount, IsRun, IsRunAt};
+ghost use Rattle.reg_state.specs.Runs.{is_in_runs, ids_of_run, meets, overlap, seen_of, AreRuns, EndInIds, AllIds, AllUnder, IsAbove, IsGreatest, IsLastCount, IsRun, IsRunAt};
 ghost use Rattle.reg_state.specs.SeenLaws.{united, Always, AlwaysAgree, seen_laws};
 
 use crate::run::{Run, comes_before, ends_before, has_id, is_apart, is_of_or_before, overlap};

@@ -1,5 +1,5 @@
 -- A list that was read, and what a command does with its lines.
-use Rattle.std.proofs.Common.{◌≡◌, ℕ, Bool, List, refl, ap, subst, ◌∙◌}
+use Rattle.std.proofs.Common.{◌≡◌, ℕ, Bool, List, subst}
 use Rattle.byte_io.specs.Device.{SourceState}
 use Rattle.reg_op.specs.Contents.{Content}
 use Rattle.reg_engine.specs.WholeFile.{Gives}

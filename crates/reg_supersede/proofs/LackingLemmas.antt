@@ -8,7 +8,8 @@ use Rattle.std.specs.List.{list_any}
 use Rattle.std.specs.BTreeSet.{BTreeSet, contains}
 use Rattle.std.specs.Cmp.{eq_by_cmp_equiv}
 use Rattle.std.specs.Ordering.{is_eq}
-use Rattle.reg_op.specs.Ids.{Id, id_cmp, is_same}
+use Rattle.std.proofs.lemmas.Bool.{or_parts}
+use Rattle.reg_op.specs.Ids.{id_cmp}
 use Rattle.reg_op.specs.Operations.{Op, Ops}
 use Rattle.reg_op.specs.declared.operation.OpBody.{OpBody as Body}
 use Rattle.reg_op.specs.declared.operation.OpBody.TheVariants.{Supersede}
@@ -22,19 +23,11 @@ use Rattle.reg_office.proofs.NumberLemmas.{length_map}
 use Rattle.reg_supersede.specs.declared.pair.Pair.{Pair}
 use Rattle.reg_supersede.specs.declared.fault.LineFault.{LineFault}
 use Rattle.reg_supersede.specs.declared.fault.LineFault.TheVariants as line
-use Rattle.reg_supersede.specs.Lists.{Task, is_there, is_pair, lacking, bodies_of, IsRefusal}
+use Rattle.reg_supersede.specs.Lists.{Task, is_there, is_pair, lacking, bodies_of}
 use Rattle.reg_supersede.specs.Effects.{after, next, has_pair, pair_cmp, pair_fault, is_known, HasPairs, AddsPair, IsPairFault, IsAddFault, CanMake, CanAdd}
-use Rattle.reg_supersede.proofs.AfterLemmas.{of_list, ops_of, more_of, objections_more}
+use Rattle.reg_supersede.proofs.AfterLemmas.{ops_of, more_of, objections_more}
 use Rattle.reg_supersede.proofs.PairLemmas.{fresh_fault, supersessions_both}
 use Rattle.reg_supersede.proofs.LineLemmas.{all_supersede, over_is, refused_at, spent_at, then_eq}
-
-pub or_parts : (a b : Bool) → (a || b) ≡ false → (a ≡ false) × (b ≡ false)
-or_parts true b h = (h, absurd_true b h)
-  where
-    absurd_true : (b : Bool) → true ≡ false → b ≡ false
-    absurd_true true h = h
-    absurd_true false h = refl
-or_parts false b h = (refl, h)
 
 -- the list of pairs has the pair where their effects do
 pub has_is : (p : Pair) (ps : List Pair) → list_any (is_pair p) ps ≡ has_pair (bodies_of ps) p.old p.newer

@@ -17,7 +17,6 @@ use Rattle.reg_supersede.specs.declared.fault.LineWord.{LineWord}
 use Rattle.reg_supersede.specs.declared.fault.LineWord.TheVariants.{Old, By}
 use Rattle.reg_supersede.specs.declared.fault.LineFault.{LineFault}
 use Rattle.reg_supersede.specs.declared.fault.LineFault.TheVariants as line
-use Rattle.reg_supersede.specs.declared.pair.Pair.{Pair}
 use Rattle.reg_supersede.specs.Lines.{words}
 use Rattle.reg_supersede.specs.Lists.{Task, pair_of, pairs_of, lacking, bodies_of, effects_of, DoesFor, RefusesFor, FailsLine, DoesAll, StopsAt, word_fault}
 

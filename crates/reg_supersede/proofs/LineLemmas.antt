@@ -1,33 +1,28 @@
 -- One more line: its effects, or why it is refused.
-use Rattle.std.proofs.Common.{◌≡◌, nat_lt, ℕ, ◌+◌, ◌<◌, ◌≤◌, Bool, true, false, not, ◌&&◌, ◌||◌, cond, List, [], ◌∷◌, ◌++◌, append_assoc, append-nil, map, length, length-append, get_or, take, drop, Option, Some, None, Ok, Err, refl, sym, ap, ◌∙◌, subst, inl, inr, arith}
+use Rattle.std.proofs.Common.{◌≡◌, nat_lt, ℕ, ◌+◌, ◌<◌, ◌≤◌, Bool, true, false, ◌&&◌, ◌||◌, cond, List, [], ◌∷◌, ◌++◌, append_assoc, append-nil, map, length, length-append, get_or, take, Option, Some, None, Ok, Err, refl, sym, ap, ◌∙◌, subst, inl, inr, arith}
 use Rattle.std.proofs.lemmas.Bool.{cases_lt}
 use Rattle.std.proofs.lemmas.Bool.Decides.{nat_tests}
-use Rattle.std.proofs.lemmas.List.{take_more, drop_more, map-append}
+use Rattle.std.proofs.lemmas.List.{take_more, map-append}
 use Rattle.std.proofs.lemmas.List.Folds.{list_any-append}
-use Rattle.std.specs.List.{list_any}
 use Rattle.std.specs.BTreeSet.{BTreeSet, contains}
 use Rattle.std.specs.Cmp.{eq_by_cmp_equiv}
 use Rattle.std.specs.declared.cmp.Ordering.{Ordering}
 use Rattle.std.specs.declared.cmp.Ordering.TheVariants.{Less, Equal, Greater}
 use Rattle.std.specs.Ordering.{is_eq, ordering_then}
 use Rattle.reg_op.specs.Ids.{Id, id_cmp, is_same}
-use Rattle.reg_op.specs.Operations.{Op, Ops}
+use Rattle.reg_op.specs.Operations.{Op}
 use Rattle.reg_op.specs.declared.operation.OpBody.{OpBody as Body}
 use Rattle.reg_op.specs.declared.operation.OpBody.TheVariants.{Supersede}
 use Rattle.reg_op.specs.Contents.{Content, state, joined_unless, merged, IsContent}
 use Rattle.reg_op.specs.Status.{is_supersession}
 use Rattle.reg_op.proofs.OpLemmas.{id_total}
 use Rattle.reg_state.specs.Runs.{id_at}
-use Rattle.reg_office.specs.declared.command.Command.{Command}
 use Rattle.reg_office.specs.declared.fault.OfficeFault.{OfficeFault}
 use Rattle.reg_office.specs.declared.fault.OfficeFault.TheVariants as fault
 use Rattle.reg_office.specs.Making.{greatest, numbered, objections, else_next, note_fault, made}
 use Rattle.reg_office.specs.Commands.{Does}
-use Rattle.reg_office.specs.Effects.{fault_of}
-use Rattle.reg_office.proofs.EffectLemmas.{faults}
-use Rattle.reg_office.proofs.NumberLemmas.{made_ok, made_refused, made_spent, length_map}
+use Rattle.reg_office.proofs.NumberLemmas.{made_ok, made_refused, made_spent}
 use Rattle.reg_office.proofs.LawLemmas.{made_are, is_greatest}
-use Rattle.reg_keys.specs.Named.{StandFor}
 use Rattle.reg_supersede.specs.declared.pair.Pair.{Pair}
 use Rattle.reg_supersede.specs.declared.fault.RefusedLine.{RefusedLine}
 use Rattle.reg_supersede.specs.Lines.{words}

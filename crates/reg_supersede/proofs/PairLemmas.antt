@@ -6,6 +6,7 @@ use Rattle.std.proofs.lemmas.List.Folds.{list_any-append}
 use Rattle.std.specs.List.{list_any}
 use Rattle.std.specs.Cmp.{tied_itself}
 use Rattle.std.specs.Ordering.{is_eq}
+use mathlib.Core.Bool.{or-false}
 use Rattle.reg_op.specs.Set as set
 use Rattle.reg_op.specs.Set.{contains, contains-from_list}
 use Rattle.reg_op.specs.Ids.{Id, is_same, is_before}
@@ -31,10 +32,6 @@ use Rattle.reg_supersede.specs.declared.pair.Pair.{Pair}
 use Rattle.reg_supersede.specs.Lists.{is_there}
 use Rattle.reg_supersede.specs.Effects.{AreSupersessions, has_pair, pair_fault}
 use Rattle.reg_supersede.proofs.AfterLemmas.{of_list, after, ops_of}
-
-pub or_end : (a : Bool) → (a || false) ≡ a
-or_end true = refl
-or_end false = refl
 
 pub and_end : (a : Bool) → (a && false) ≡ false
 and_end true = refl
@@ -93,10 +90,10 @@ module _ (x : Content) (r note : List ℕ) (bs : List Body) (are : AreSupersessi
   kept_is = kept-union_right x.ops (of_list (ops_of x r note bs))
 
   pub entered : (e : Id) → enters here e ≡ enters x.ops e
-  entered e = ap (λ s. enters s e) kept_is ∙ enters-kept union e ∙ any-with (is_in e) x.ops (ops_of x r note bs) ∙ ap (λ b. enters x.ops e || b) (none_enter r note _ bs e are) ∙ or_end (enters x.ops e)
+  entered e = ap (λ s. enters s e) kept_is ∙ enters-kept union e ∙ any-with (is_in e) x.ops (ops_of x r note bs) ∙ ap (λ b. enters x.ops e || b) (none_enter r note _ bs e are) ∙ or-false (enters x.ops e)
 
   off_is : (e : Id) → retires union e ≡ retires x.ops e
-  off_is e = any-with (is_off e) x.ops (ops_of x r note bs) ∙ ap (λ b. retires x.ops e || b) (none_retire r note _ bs e are) ∙ or_end (retires x.ops e)
+  off_is e = any-with (is_off e) x.ops (ops_of x r note bs) ∙ ap (λ b. retires x.ops e || b) (none_retire r note _ bs e are) ∙ or-false (retires x.ops e)
 
   pub retired : (e : Id) → retires here e ≡ retires x.ops e
   retired e = ap (λ s. retires s e) kept_is ∙ retires-kept union e ∙ off_is e
@@ -171,15 +168,15 @@ module _ (y : Content) (o : Op) (old newer : Id) (is : o.body ≡ Supersede old 
   two = set.union y.ops (one o)
 
   two_any : (t : Op → Bool) → any t two ≡ (any t y.ops || t o)
-  two_any t = any-with t y.ops (o ∷ []) ∙ ap (λ b. any t y.ops || b) (or_end (t o))
+  two_any t = any-with t y.ops (o ∷ []) ∙ ap (λ b. any t y.ops || b) (or-false (t o))
 
   two_off : (e : Id) → retires two e ≡ retires y.ops e
-  two_off e = two_any (is_off e) ∙ ap (λ b. retires y.ops e || is_retirement e b) is ∙ or_end (retires y.ops e)
+  two_off e = two_any (is_off e) ∙ ap (λ b. retires y.ops e || is_retirement e b) is ∙ or-false (retires y.ops e)
 
   pub with_entered : (e : Id) → enters (with_op y o).ops e ≡ enters y.ops e
   with_entered e =
       ap (λ s. enters s e) (kept-union_right y.ops (one o)) ∙ enters-kept two e ∙ two_any (is_in e)
-      ∙ ap (λ b. enters y.ops e || (is_same e o.id && is_enter b)) is ∙ ap (λ b. enters y.ops e || b) (and_end (is_same e o.id)) ∙ or_end (enters y.ops e)
+      ∙ ap (λ b. enters y.ops e || (is_same e o.id && is_enter b)) is ∙ ap (λ b. enters y.ops e || b) (and_end (is_same e o.id)) ∙ or-false (enters y.ops e)
 
   pub with_retired : (e : Id) → retires (with_op y o).ops e ≡ retires y.ops e
   with_retired e = ap (λ s. retires s e) (kept-union_right y.ops (one o)) ∙ retires-kept two e ∙ two_off e

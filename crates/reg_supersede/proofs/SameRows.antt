@@ -1,5 +1,5 @@
 -- Rows of the same entries, of which the same are retired: words stand for the same entries in both.
-use Rattle.std.proofs.Common.{◌≡◌, ◌≢◌, ◌↔◌, ℕ, ◌+◌, true, false, List, [], ◌∷◌, refl, sym, ap, ◌∙◌, subst, inl, inr}
+use Rattle.std.proofs.Common.{◌≡◌, ◌≢◌, ℕ, ◌+◌, true, false, List, [], ◌∷◌, refl, sym, ◌∙◌, subst, inl, inr}
 use Rattle.std.specs.Prelude.{Contains, Some}
 use Rattle.reg_op.specs.Ids.{Id, is_before}
 use Rattle.reg_op.specs.Rows.{Row}
@@ -8,7 +8,7 @@ use Rattle.reg_report.specs.Conflicts.{KeyBytes, HasKey}
 use Rattle.reg_keys.specs.declared.fault.KeyFault.{KeyFault}
 use Rattle.reg_keys.specs.declared.fault.KeyFault.TheVariants.{NoEntry, Several, Memory}
 use Rattle.reg_keys.specs.Words.{NamesKey}
-use Rattle.reg_keys.specs.Named.{HasWord, Answers, IsEntry, AreEntries, AllHave, IsLeast, StandsFor, IsOther, IsObjection}
+use Rattle.reg_keys.specs.Named.{Answers, IsEntry, AreEntries, AllHave, IsLeast, StandsFor, IsOther, IsObjection}
 use Rattle.reg_keys.specs.Every.{StandsForEvery, StandForEach, FailsAt}
 
 -- the row r is among these too, but perhaps with another status; it is not retired there, unless it is here

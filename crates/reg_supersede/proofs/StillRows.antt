@@ -1,9 +1,9 @@
 -- Supersessions leave each row of a content, but for its status, and retire no entry.
-use Rattle.std.proofs.Common.{◌≡◌, ◌≢◌, ℕ, ◌+◌, Bool, true, false, cond, List, [], ◌∷◌, ◌++◌, None, refl, sym, ap, ◌∙◌, subst, inl, inr}
+use Rattle.std.proofs.Common.{◌≡◌, ◌≢◌, ℕ, ◌+◌, Bool, true, false, cond, List, [], ◌∷◌, ◌++◌, None, refl, sym, ◌∙◌, subst, inl, inr}
 use Rattle.std.specs.Prelude.{Contains, Some}
 use Rattle.std.specs.List.{flat_map}
 use Rattle.std.proofs.lemmas.Bool.{true≢false, or_cases}
-use Rattle.std.proofs.lemmas.List.Elements.{Contains-append_cases, Contains-append_left, Contains-append_right}
+use Rattle.std.proofs.lemmas.List.Elements.{Contains-append_left, Contains-append_right}
 use Rattle.reg_op.specs.Set as set
 use Rattle.reg_op.specs.Set.{contains, contains-items, contains-from_list}
 use Rattle.reg_op.specs.Ids.{Id, is_before}
@@ -19,9 +19,10 @@ use Rattle.reg_op.specs.declared.status.Status.TheVariants.{Retired, Superseded,
 use Rattle.reg_op.proofs.OpLemmas.{op_total}
 use Rattle.reg_op.proofs.ContentLemmas.{contains_op-union, kept_is_within, union_left}
 use Rattle.reg_op.proofs.OneLemmas.{kept_has}
-use Rattle.reg_report.proofs.ConflictLemmas.{none_in, in_cons, in_head}
+use Rattle.reg_report.proofs.ConflictLemmas.{in_head}
 use Rattle.reg_report.proofs.EntryLemmas.{row_is_entered}
 use Rattle.reg_report.proofs.PairLemmas.{it_enters}
+use Rattle.reg_report.proofs.RowLemmas.{row_status}
 use Rattle.reg_office.specs.Making.{greatest}
 use Rattle.reg_office.proofs.NumberLemmas.{op_cases}
 use Rattle.reg_supersede.specs.Effects.{AreSupersessions}
@@ -33,21 +34,6 @@ use Rattle.reg_supersede.proofs.SameRows.{IsThere, AreSame}
 
 abbrev rows_in : Ops → List Op → List Row
 rows_in s os = flat_map (λ (o : Op). rows_at s o.id o.body) os
-
-at_op : (s : Ops) (e : Id) (b : Body) (r : Row) → Contains (rows_at s e b) r → r.status ≡ status s r.entry
-at_op s e (Enter text) r h = elim (in_cons r _ [] h) [
-  | inl same ↦ subst (λ (q : Row). q.status ≡ status s q.entry) (sym same) refl
-  | inr later ↦ absurd (none_in r later)
-]
-at_op s e (Supersede old newer) r h = absurd (none_in r h)
-at_op s e (Retire entry) r h = absurd (none_in r h)
-
-has_status : (s : Ops) (os : List Op) (r : Row) → Contains (rows_in s os) r → r.status ≡ status s r.entry
-has_status s [] r h = absurd (none_in r h)
-has_status s (o ∷ os) r h = elim (Contains-append_cases (rows_at s o.id o.body) (rows_in s os) r h) [
-  | inl here ↦ at_op s o.id o.body r here
-  | inr later ↦ has_status s os r later
-]
 
 abbrev row_of : Ops → Id → List ℕ → Row
 row_of s i text = record { entry = i; definition = text; status = status s i; newer = set.items (newer_of s i) }
@@ -84,7 +70,7 @@ rows_too s z same more r h =
       entry = refl;
       definition = refl;
       stands = λ up. stays s z r.entry (it_enters s (entering r.entry r.definition o.0) r.entry r.definition (Enter r.definition) o.1 refl refl refl) (same r.entry)
-          (subst (λ v. v ≢ Some Retired) (has_status s (set.items s) r h) up);
+          (subst (λ v. v ≢ Some Retired) (row_status s r h) up);
     }
 
 -- ---- after supersessions

@@ -2,7 +2,7 @@
 use Rattle.std.specs.Prelude.{nat_eq}
 use Rattle.std.proofs.lemmas.Bool.Decides.{nat_tests}
 use Rattle.std.proofs.lemmas.List.{length-map}
-use Rattle.std.proofs.Common.{◌≡◌, ℕ, ◌<◌, false, List, [], ◌∷◌, map, length, refl, sym, ap, ◌∙◌, subst, inl, inr, arith}
+use Rattle.std.proofs.Common.{◌≡◌, ℕ, ◌<◌, false, List, [], ◌∷◌, map, length, sym, subst, inl, inr, arith}
 use Rattle.reg_op.specs.Ids.{Id}
 use Rattle.reg_op.specs.declared.operation.OpBody.{OpBody as Body}
 use Rattle.reg_op.specs.Contents.{Content}
@@ -10,23 +10,13 @@ use Rattle.reg_keys.specs.declared.fault.KeyFault.{KeyFault}
 use Rattle.reg_keys.specs.Every.{StandsForEvery, StandForEach}
 use Rattle.reg_supersede.specs.declared.pair.Pair.{Pair}
 use Rattle.reg_supersede.specs.declared.fault.LineWord.{LineWord}
-use Rattle.reg_supersede.specs.declared.fault.LineWord.TheVariants.{Old}
 use Rattle.reg_supersede.specs.declared.fault.LineFault.{LineFault}
-use Rattle.reg_supersede.specs.declared.fault.LineFault.TheVariants as line
-use Rattle.reg_supersede.specs.Lists.{Task, FailsLine, word_fault, pairs_of, lacking, bodies_of, effects_of, RefusesFor, IsRefusal}
+use Rattle.reg_supersede.specs.Lists.{Task, FailsLine, word_fault, pairs_of, lacking, bodies_of, RefusesFor, IsRefusal}
 use Rattle.reg_supersede.specs.Effects.{after, AddsFor, CanAdd, IsAddFault}
-
-pub adds_none : (t : Task) (x : Content) (bs : List Body) (ws : List (List ℕ)) (ps : List Pair) → length ws ≡ 0 → ps ≡ [] → AddsFor t x bs ws ps
-adds_none t x bs [] ps e none = none
-adds_none t x bs (w ∷ ws) ps e none = absurd (omega arith)
 
 pub refuses_word : (t : Task) (x : Content) (w : List ℕ) (ws : List (List ℕ)) (f : LineFault) (at : LineWord) (k : KeyFault) → FailsLine t.rows w ws at k → word_fault t.keys at k ≡ f → RefusesFor t x (w ∷ ws) f
 refuses_word t x w [] f at k o e = inl (at, k, o, e)
 refuses_word t x w (v ∷ ws) f at k o e = inl (at, k, o, e)
-
-pub refuses_alone : (t : Task) (x : Content) (w : List ℕ) (ws : List (List ℕ)) → length ws ≡ 0 → RefusesFor t x (w ∷ ws) (line.BadId Old)
-refuses_alone t x w [] e = inr refl
-refuses_alone t x w (v ∷ ws) e = absurd (omega arith)
 
 pub adds_some : (t : Task) (x : Content) (bs : List Body) (w : List ℕ) (ws : List (List ℕ)) (olds newer : List Id) (ps : List Pair) → 0 < length ws → StandsForEvery t.rows w olds → StandForEach t.rows ws newer
     → ps ≡ lacking (after t x bs).ops [] (pairs_of olds newer) → CanAdd t x bs (bodies_of ps) → AddsFor t x bs (w ∷ ws) ps

@@ -1,5 +1,5 @@
 -- The effects of the lines so far, and the content that they make.
-use Rattle.std.specs.Prelude.{◌≡◌, ◌⊎◌, ◌≤◌, ◌+◌, ◌++◌, [], ◌∷◌, ℕ, Bool, not, ◌&&◌, ◌||◌, true, false, List, Option, Some, None, Err, length, map, if◌then◌else◌}
+use Rattle.std.specs.Prelude.{◌≡◌, ◌⊎◌, ◌≤◌, ◌+◌, ◌++◌, [], ◌∷◌, ℕ, Bool, not, ◌||◌, true, false, List, Option, Some, None, Err, length, map, if◌then◌else◌}
 use Rattle.std.specs.List.{list_any}
 use Rattle.std.specs.BTreeSet.{BTreeSet, contains}
 use Rattle.std.specs.declared.cmp.Ordering.{Ordering}
@@ -8,7 +8,7 @@ use Rattle.reg_op.specs.Set as set
 use Rattle.reg_op.specs.Ids.{Id, id_cmp, is_same}
 use Rattle.reg_op.specs.Operations.{Op, Ops, op_cmp}
 use Rattle.reg_op.specs.declared.operation.OpBody.{OpBody as Body}
-use Rattle.reg_op.specs.declared.operation.OpBody.TheVariants.{Enter, Supersede, Retire}
+use Rattle.reg_op.specs.declared.operation.OpBody.TheVariants.{Supersede}
 use Rattle.reg_op.specs.Contents.{Content, state, merged}
 use Rattle.reg_op.specs.Status.{enters, retires, is_supersession}
 use Rattle.reg_office.specs.declared.fault.OfficeFault.{OfficeFault}

@@ -39,18 +39,18 @@ fn pair_fault(register: &Register, pair: Pair) -> Option<OfficeFault>
 }
 
 // Whether the old entry is superseded by the newer one already, in the register or by an earlier line.
-fn is_there(order: &ListOptions<'_>, effects: &Effects, pair: Pair) -> bool
-    requires made { CanMake (task_of order.now) order.now.register.now effects.now.bodies.items }
+fn is_there(options: &ListOptions<'_>, effects: &Effects, pair: Pair) -> bool
+    requires made { CanMake (task_of options.now) options.now.register.now effects.now.bodies.items }
     requires pairs { ArePairs effects.now.pairs effects.now.bodies.items }
-    ensures { result ≡ is_there (after (task_of order.now) order.now.register.now effects.now.bodies.items).ops pair }
+    ensures { result ≡ is_there (after (task_of options.now) options.now.register.now effects.now.bodies.items).ops pair }
 {
-    if !is_entered(order.register, pair.old) {
+    if !is_entered(options.register, pair.old) {
         return false;
     }
-    if is_retired(order.register, pair.old) {
+    if is_retired(options.register, pair.old) {
         return false;
     }
-    order.register.is_superseded_by(pair.old, pair.newer) || effects.pairs.contains(&pair)
+    options.register.is_superseded_by(pair.old, pair.newer) || effects.pairs.contains(&pair)
 }
 
 // The pairs of a line so far, as a list and as a set.
@@ -62,25 +62,25 @@ struct Added {
 
 // Adds one pair more, unless it is there.
 fn add_pair(
-    order: &ListOptions<'_>,
+    options: &ListOptions<'_>,
     effects: &Effects,
     added: &mut Added,
     pair: Pair,
 ) -> Result<(), LineFault>
-    requires made { CanMake (task_of order.now) order.now.register.now effects.now.bodies.items }
+    requires made { CanMake (task_of options.now) options.now.register.now effects.now.bodies.items }
     requires pairs { ArePairs effects.now.pairs effects.now.bodies.items }
     requires set { HasPairs added.old.set added.old.list.items }
-    ensures ok { OnOk result (AddsPair order.now.register.now.ops (after (task_of order.now) order.now.register.now effects.now.bodies.items).ops pair added.old.list.items added.new.list.items) }
+    ensures ok { OnOk result (AddsPair options.now.register.now.ops (after (task_of options.now) options.now.register.now effects.now.bodies.items).ops pair added.old.list.items added.new.list.items) }
     ensures set { OnOk result (HasPairs added.new.set added.new.list.items) }
-    ensures fault { IfErr result (IsPairFault order.now.register.now.ops (after (task_of order.now) order.now.register.now effects.now.bodies.items).ops pair added.old.list.items) }
+    ensures fault { IfErr result (IsPairFault options.now.register.now.ops (after (task_of options.now) options.now.register.now effects.now.bodies.items).ops pair added.old.list.items) }
 {
-    if is_there(order, effects, pair) {
+    if is_there(options, effects, pair) {
         return Ok(());
     }
     if added.set.contains(&pair) {
         return Ok(());
     }
-    if let Some(fault) = pair_fault(order.register, pair) {
+    if let Some(fault) = pair_fault(options.register, pair) {
         return Err(LineFault::Office(fault));
     }
     let Ok(_) = added.set.insert(pair) else {
@@ -95,44 +95,44 @@ fn add_pair(
 // Of these pairs those that are not there yet, each once.
 fn lacking(
     alloc: Global,
-    order: &ListOptions<'_>,
+    options: &ListOptions<'_>,
     effects: &Effects,
     pairs: &[Pair],
 ) -> Result<Vec<Pair>, LineFault>
-    requires made { CanMake (task_of order.now) order.now.register.now effects.now.bodies.items }
+    requires made { CanMake (task_of options.now) options.now.register.now effects.now.bodies.items }
     requires pairs { ArePairs effects.now.pairs effects.now.bodies.items }
-    requires short { note_fault order.now.note.now ≡ None }
-    ensures ok { IfOk result (λ v. (v.items ≡ lacking (after (task_of order.now) order.now.register.now effects.now.bodies.items).ops [] pairs.now)
-        × (objections (after (task_of order.now) order.now.register.now effects.now.bodies.items)
-        (numbered order.now.replica (next (task_of order.now) order.now.register.now effects.now.bodies.items) order.now.note.now (bodies_of v.items)) ≡ None)) }
-    ensures fault { IfErr result (IsAddFault (task_of order.now) (after (task_of order.now) order.now.register.now effects.now.bodies.items)
-        (lacking (after (task_of order.now) order.now.register.now effects.now.bodies.items).ops [] pairs.now)) }
+    requires short { note_fault options.now.note.now ≡ None }
+    ensures ok { IfOk result (λ v. (v.items ≡ lacking (after (task_of options.now) options.now.register.now effects.now.bodies.items).ops [] pairs.now)
+        × (objections (after (task_of options.now) options.now.register.now effects.now.bodies.items)
+        (numbered options.now.replica (next (task_of options.now) options.now.register.now effects.now.bodies.items) options.now.note.now (bodies_of v.items)) ≡ None)) }
+    ensures fault { IfErr result (IsAddFault (task_of options.now) (after (task_of options.now) options.now.register.now effects.now.bodies.items)
+        (lacking (after (task_of options.now) options.now.register.now effects.now.bodies.items).ops [] pairs.now)) }
 {
-    let _content = order.register.seen();
+    let _content = options.register.seen();
     let mut added = Added {
         list: Vec::new(alloc),
         set: BTreeSet::new(alloc),
     };
     for pair in pairs {
-        add_pair(order, effects, &mut added, *pair)?;
+        add_pair(options, effects, &mut added, *pair)?;
     }
     let Added { list, set: _ } = added;
     Ok(list)
 }
 
 // The greatest own count seen before the first line.
-fn last_count(order: &ListOptions<'_>) -> u32
-    ensures { result ≡ greatest order.now.replica order.now.register.now.seen }
+fn last_count(options: &ListOptions<'_>) -> u32
+    ensures { result ≡ greatest options.now.replica options.now.register.now.seen }
 {
-    order.register.seen().greatest(order.replica)
+    options.register.seen().greatest(options.replica)
 }
 
 // Whether the last number would be out of range.
-fn is_spent(order: &ListOptions<'_>, effects: &Effects, pairs: &[Pair]) -> bool
-    requires { greatest order.now.replica order.now.register.now.seen + length effects.now.bodies.items ≤ 4294967295 }
-    ensures { result ≡ nat_lt 4294967295 (greatest order.now.replica order.now.register.now.seen + length effects.now.bodies.items + length pairs.now) }
+fn is_spent(options: &ListOptions<'_>, effects: &Effects, pairs: &[Pair]) -> bool
+    requires { greatest options.now.replica options.now.register.now.seen + length effects.now.bodies.items ≤ 4294967295 }
+    ensures { result ≡ nat_lt 4294967295 (greatest options.now.replica options.now.register.now.seen + length effects.now.bodies.items + length pairs.now) }
 {
-    let left = u32::MAX - last_count(order);
+    let left = u32::MAX - last_count(options);
     left as usize - effects.bodies.len() < pairs.len()
 }
 
@@ -149,25 +149,25 @@ fn note_fault(note: &str) -> Option<OfficeFault>
 /// Of these pairs those that a line adds: the ones that are not there yet, each once.
 pub fn pairs_to_add(
     alloc: Global,
-    order: &ListOptions<'_>,
+    options: &ListOptions<'_>,
     effects: &Effects,
     pairs: &[Pair],
 ) -> Result<Vec<Pair>, LineFault>
-    requires made { CanMake (task_of order.now) order.now.register.now effects.now.bodies.items }
+    requires made { CanMake (task_of options.now) options.now.register.now effects.now.bodies.items }
     requires pairs { ArePairs effects.now.pairs effects.now.bodies.items }
-    ensures lacking { IfOk result (λ v. v.items ≡ lacking (after (task_of order.now) order.now.register.now effects.now.bodies.items).ops [] pairs.now) }
-    ensures allowed { IfOk result (λ v. CanAdd (task_of order.now) order.now.register.now effects.now.bodies.items (bodies_of v.items)) }
-    ensures fault { IfErr result (IsAddFault (task_of order.now) (after (task_of order.now) order.now.register.now effects.now.bodies.items)
-        (lacking (after (task_of order.now) order.now.register.now effects.now.bodies.items).ops [] pairs.now)) }
+    ensures lacking { IfOk result (λ v. v.items ≡ lacking (after (task_of options.now) options.now.register.now effects.now.bodies.items).ops [] pairs.now) }
+    ensures allowed { IfOk result (λ v. CanAdd (task_of options.now) options.now.register.now effects.now.bodies.items (bodies_of v.items)) }
+    ensures fault { IfErr result (IsAddFault (task_of options.now) (after (task_of options.now) options.now.register.now effects.now.bodies.items)
+        (lacking (after (task_of options.now) options.now.register.now effects.now.bodies.items).ops [] pairs.now)) }
 {
-    if let Some(fault) = note_fault(order.note) {
+    if let Some(fault) = note_fault(options.note) {
         return Err(LineFault::Office(fault));
     }
-    let lacking = match lacking(alloc, order, effects, pairs) {
+    let lacking = match lacking(alloc, options, effects, pairs) {
         Ok(lacking) => lacking,
         Err(fault) => return Err(fault),
     };
-    if is_spent(order, effects, &lacking) {
+    if is_spent(options, effects, &lacking) {
         return Err(LineFault::Office(OfficeFault::CountSpent));
     }
     Ok(lacking)

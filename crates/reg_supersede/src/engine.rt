@@ -1,7 +1,6 @@
 //! The command `supersede --from`.
 
 ghost use Rattle.std.specs.Prelude.{◌≡◌, true, IfOk, IfErr};
-ghost use Rattle.reg_op.specs.Ids.{Id};
 ghost use Rattle.reg_engine.specs.Outputs.{id_lines};
 ghost use Rattle.reg_supersede.specs.Lines.{lines};
 ghost use Rattle.reg_supersede.specs.Lists.{DoesAll};
@@ -62,7 +61,7 @@ fn planned(
     let Ok(lines) = lines_of(alloc, bytes) else {
         return Err(OUT_OF_MEMORY);
     };
-    let order = ListOptions {
+    let options = ListOptions {
         register,
         index: &index,
         keys,
@@ -70,7 +69,7 @@ fn planned(
         note,
         keep_going,
     };
-    match all_lines(alloc, &order, &lines) {
+    match all_lines(alloc, &options, &lines) {
         Ok(listed) => Ok(listed),
         Err(fault) => Err(fault),
     }

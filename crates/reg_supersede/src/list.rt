@@ -19,20 +19,20 @@ use std::collections::BTreeSet;
 // The pairs that a line adds, if it is not refused.
 fn allowed(
     alloc: Global,
-    order: &ListOptions<'_>,
+    options: &ListOptions<'_>,
     effects: &Effects,
     line: &[u8],
 ) -> Result<Vec<Pair>, LineFault>
-    requires index { IsIndex order.now.index.now (rows_if order.now.keys order.now.register.now) }
-    requires made { CanMake (task_of order.now) order.now.register.now effects.now.bodies.items }
+    requires index { IsIndex options.now.index.now (rows_if options.now.keys options.now.register.now) }
+    requires made { CanMake (task_of options.now) options.now.register.now effects.now.bodies.items }
     requires pairs { ArePairs effects.now.pairs effects.now.bodies.items }
-    ensures adds { IfOk result (λ ps. AddsFor (task_of order.now) order.now.register.now effects.now.bodies.items (words line.now) ps.items) }
-    ensures fault { IfErr result (IsLineFault (task_of order.now) (after (task_of order.now) order.now.register.now effects.now.bodies.items) line.now) }
+    ensures adds { IfOk result (λ ps. AddsFor (task_of options.now) options.now.register.now effects.now.bodies.items (words line.now) ps.items) }
+    ensures fault { IfErr result (IsLineFault (task_of options.now) (after (task_of options.now) options.now.register.now effects.now.bodies.items) line.now) }
 {
     let Ok(words) = words_of(alloc, line) else {
         return Err(LineFault::Memory);
     };
-    match allowed_for(alloc, order, effects, &words) {
+    match allowed_for(alloc, options, effects, &words) {
         Ok(pairs) => Ok(pairs),
         Err(fault) => Err(fault),
     }
@@ -41,23 +41,23 @@ fn allowed(
 // The pairs that a line of these words adds.
 fn allowed_for(
     alloc: Global,
-    order: &ListOptions<'_>,
+    options: &ListOptions<'_>,
     effects: &Effects,
     words: &[&[u8]],
 ) -> Result<Vec<Pair>, LineFault>
-    requires index { IsIndex order.now.index.now (rows_if order.now.keys order.now.register.now) }
-    requires made { CanMake (task_of order.now) order.now.register.now effects.now.bodies.items }
+    requires index { IsIndex options.now.index.now (rows_if options.now.keys options.now.register.now) }
+    requires made { CanMake (task_of options.now) options.now.register.now effects.now.bodies.items }
     requires pairs { ArePairs effects.now.pairs effects.now.bodies.items }
-    ensures adds { IfOk result (λ ps. AddsFor (task_of order.now) order.now.register.now effects.now.bodies.items (map (λ w. w.now) words.now) ps.items) }
-    ensures fault { IfErr result (λ f. IsRefusal f → RefusesFor (task_of order.now) (after (task_of order.now) order.now.register.now effects.now.bodies.items) (map (λ w. w.now) words.now) f) }
+    ensures adds { IfOk result (λ ps. AddsFor (task_of options.now) options.now.register.now effects.now.bodies.items (map (λ w. w.now) words.now) ps.items) }
+    ensures fault { IfErr result (λ f. IsRefusal f → RefusesFor (task_of options.now) (after (task_of options.now) options.now.register.now effects.now.bodies.items) (map (λ w. w.now) words.now) f) }
 {
     let Some((first, others)) = words.split_first() else {
         return Ok(Vec::new(alloc));
     };
     let LineEntries { olds, newer } = match entries_for(
         alloc,
-        order.index,
-        order.keys,
+        options.index,
+        options.keys,
         *first,
         others,
     ) {
@@ -70,7 +70,7 @@ fn allowed_for(
     let Ok(pairs) = pairs_of(alloc, &olds, &newer) else {
         return Err(LineFault::Memory);
     };
-    match pairs_to_add(alloc, order, effects, &pairs) {
+    match pairs_to_add(alloc, options, effects, &pairs) {
         Ok(added) => Ok(added),
         Err(fault) => Err(fault),
     }
@@ -93,22 +93,22 @@ fn push_line(effects: &mut Effects, pairs: &[Pair]) -> Result<(), AllocError>
 // One line, with this number. If it is refused and left out, it is listed.
 fn step(
     alloc: Global,
-    order: &ListOptions<'_>,
+    options: &ListOptions<'_>,
     effects: &mut Effects,
     left: &mut Vec<RefusedLine>,
     number: usize,
     line: &[u8],
 ) -> Result<(), RefusedLine>
-    requires index { IsIndex order.now.index.now (rows_if order.now.keys order.now.register.now) }
-    requires made { CanMake (task_of order.now) order.now.register.now effects.old.bodies.items }
+    requires index { IsIndex options.now.index.now (rows_if options.now.keys options.now.register.now) }
+    requires made { CanMake (task_of options.now) options.now.register.now effects.old.bodies.items }
     requires pairs { ArePairs effects.old.pairs effects.old.bodies.items }
-    ensures ok { OnOk result (StepsOn (task_of order.now) order.now.register.now number line.now effects.old.bodies.items left.old.items effects.new.bodies.items left.new.items) }
-    ensures made { OnOk result (CanMake (task_of order.now) order.now.register.now effects.new.bodies.items) }
+    ensures ok { OnOk result (StepsOn (task_of options.now) options.now.register.now number line.now effects.old.bodies.items left.old.items effects.new.bodies.items left.new.items) }
+    ensures made { OnOk result (CanMake (task_of options.now) options.now.register.now effects.new.bodies.items) }
     ensures pairs { OnOk result (ArePairs effects.new.pairs effects.new.bodies.items) }
-    ensures fault { IfErr result (IsStepFault (task_of order.now) (after (task_of order.now) order.now.register.now effects.old.bodies.items) number line.now) }
+    ensures fault { IfErr result (IsStepFault (task_of options.now) (after (task_of options.now) options.now.register.now effects.old.bodies.items) number line.now) }
 {
-    let _content = order.register.seen();
-    match allowed(alloc, order, effects, line) {
+    let _content = options.register.seen();
+    match allowed(alloc, options, effects, line) {
         Ok(pairs) => match push_line(effects, &pairs) {
             Ok(()) => Ok(()),
             Err(_) => Err(RefusedLine {
@@ -121,7 +121,7 @@ fn step(
                 line: number,
                 fault,
             };
-            match leave_out(order.keep_going, left, refused) {
+            match leave_out(options.keep_going, left, refused) {
                 Ok(()) => Ok(()),
                 Err(fault) => Err(fault),
             }
@@ -164,23 +164,23 @@ pub struct Listed {
 /// One line after the other.
 pub fn all_lines(
     alloc: Global,
-    order: &ListOptions<'_>,
+    options: &ListOptions<'_>,
     lines: &[&[u8]],
 ) -> Result<Listed, RefusedLine>
-    requires { IsIndex order.now.index.now (rows_if order.now.keys order.now.register.now) }
-    ensures done { IfOk result (λ l. DoesAll (task_of order.now) 1 order.now.register.now (map (λ w. w.now) lines.now)
-        (after (task_of order.now) order.now.register.now l.bodies.items) (ids_of (task_of order.now) order.now.register.now l.bodies.items) l.left.items) }
-    ensures made { IfOk result (λ l. CanMake (task_of order.now) order.now.register.now l.bodies.items) }
-    ensures fault { IfErr result (IsListFault (task_of order.now) order.now.register.now (map (λ w. w.now) lines.now)) }
+    requires { IsIndex options.now.index.now (rows_if options.now.keys options.now.register.now) }
+    ensures done { IfOk result (λ l. DoesAll (task_of options.now) 1 options.now.register.now (map (λ w. w.now) lines.now)
+        (after (task_of options.now) options.now.register.now l.bodies.items) (ids_of (task_of options.now) options.now.register.now l.bodies.items) l.left.items) }
+    ensures made { IfOk result (λ l. CanMake (task_of options.now) options.now.register.now l.bodies.items) }
+    ensures fault { IfErr result (IsListFault (task_of options.now) options.now.register.now (map (λ w. w.now) lines.now)) }
 {
-    let _content = order.register.seen();
+    let _content = options.register.seen();
     let mut effects = Effects {
         bodies: Vec::new(alloc),
         pairs: BTreeSet::new(alloc),
     };
     let mut left = Vec::new(alloc);
     for (at, line) in lines.iter().enumerate() {
-        step(alloc, order, &mut effects, &mut left, at + 1, *line)?;
+        step(alloc, options, &mut effects, &mut left, at + 1, *line)?;
     }
     let Effects { bodies, pairs: _ } = effects;
     Ok(Listed { bodies, left })

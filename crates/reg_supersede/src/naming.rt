@@ -5,16 +5,16 @@ ghost use Rattle.reg_op.specs.Rows.{Row as OneRow};
 ghost use Rattle.reg_op.specs.Set.{Ascends};
 ghost use Rattle.reg_report.specs.Seen.{row_seen};
 ghost use Rattle.reg_keys.specs.declared.fault.KeyFault.{KeyFault};
-ghost use Rattle.reg_keys.specs.Rows.{row_cmp};
+ghost use Rattle.reg_report.specs.Rows.{row_cmp};
 ghost use Rattle.reg_keys.specs.Index.{IsIndex};
 ghost use Rattle.reg_keys.specs.Every.{StandsForEvery, StandForEach};
 ghost use Rattle.reg_supersede.specs.declared.fault.LineWord.{LineWord};
 ghost use Rattle.reg_supersede.specs.Lists.{rows_if, word_fault, FailsLine};
 
 use crate::fault::{LineFault, LineWord};
-use reg_keys::{KeyFault, KeyIndex, each_of_words_in, every_in, index_of, rows_in_order};
+use reg_keys::{KeyFault, KeyIndex, each_of_words_in, every_in, index_of};
 use reg_op::OpId;
-use reg_report::Row;
+use reg_report::{Row, rows};
 use reg_state::Register;
 use std::alloc::{AllocError, Global};
 
@@ -24,7 +24,7 @@ fn rows_for(alloc: Global, register: &Register, keys: bool) -> Result<Vec<Row>, 
     ensures order { IfOk result (λ made. Ascends row_cmp (map row_seen made.items)) }
 {
     if keys {
-        return rows_in_order(alloc, register);
+        return rows(alloc, register);
     }
     Ok(Vec::new(alloc))
 }

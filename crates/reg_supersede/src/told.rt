@@ -1,6 +1,6 @@
 //! How a refused line prints, and when a command reports it.
 
-ghost use Rattle.std.specs.Prelude.{◌≡◌, false, map, option_map, IfOk, IfSome, IfNone};
+ghost use Rattle.std.specs.Prelude.{◌≡◌, map, option_map, IfOk, IfSome, IfNone};
 ghost use Rattle.reg_supersede.specs.declared.fault.RefusedLine.{RefusedLine};
 ghost use Rattle.reg_supersede.specs.Engine.{cause_of, Refuses, word_at, fault_word, word_of};
 

@@ -1,16 +1,16 @@
 -- Pieces that are tried again: what stays, and when none of them can be joined.
-use Rattle.std.proofs.Common.{◌≡◌, ◌⊎◌, ◌∷◌, ◌++◌, [], Bool, true, false, List, All, ℕ, ◌+◌, ◌<◌, ◌≤◌, zero, suc, length, slice_get, Option, None, Some, Result, Ok, Err, refl, sym, ap, subst, ◌∙◌, inl, inr, arith}
+use Rattle.std.proofs.Common.{◌≡◌, ◌⊎◌, ◌∷◌, ◌++◌, [], List, ℕ, ◌+◌, ◌<◌, ◌≤◌, zero, suc, length, slice_get, Option, None, Some, Result, Ok, Err, refl, sym, ap, subst, ◌∙◌, inl, inr, arith}
 use Rattle.std.proofs.lemmas.List.{length-append}
 use Rattle.std.proofs.lemmas.List.Elements.{All-nil, All-cons, All-append}
 use Rattle.reg_op.specs.Ids.{Id}
-use Rattle.reg_op.specs.Contents.{Content, joined, IsContent}
+use Rattle.reg_op.specs.Contents.{Content, joined}
 use Rattle.reg_op.specs.Pieces.{Piece, PieceRefusal, Basis, Clash, first_missing, joined_where, joined_piece, part_of}
 use Rattle.reg_take.specs.declared.files.Arrival.{Arrival}
 use Rattle.reg_take.specs.declared.files.Arrival.TheVariants as arrival
 use Rattle.reg_take.specs.declared.taking.LeftOut.{LeftOut}
 use Rattle.reg_take.specs.declared.taking.LeftOut.TheVariants as left
 use Rattle.reg_take.specs.declared.taking.Taking.{Taking}
-use Rattle.reg_take.specs.Taken.{Progress, Shows, left_out, leaving, after_piece, with_none_left, tried_piece, tried, each_tried, tried_again, rounds, Lacks, IsWaiting, AllWait}
+use Rattle.reg_take.specs.Taken.{Progress, Shows, leaving, after_piece, with_none_left, tried_piece, tried, each_tried, tried_again, rounds, Lacks, IsWaiting, AllWait}
 
 -- ---- a property of the content, and of what was joined, that joining a piece keeps
 

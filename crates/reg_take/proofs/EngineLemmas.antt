@@ -1,6 +1,7 @@
 -- The store and the lines after a take, whether or not the register is changed.
 use Rattle.std.proofs.Common.{◌≡◌, ◌↔◌, ℕ, List, Bool, true, false, inl, inr}
 use Rattle.std.specs.Prelude.{IsTrue, ◌≢◌}
+use Rattle.std.proofs.lemmas.Bool.{both_ways}
 use Rattle.byte_io.specs.Device.{SinkState}
 use Rattle.byte_io.specs.Whole.{WritesAll}
 use Rattle.reg_op.specs.Contents.{Content}
@@ -10,11 +11,8 @@ use Rattle.reg_take.specs.declared.options.TakeOptions.{TakeOptions}
 use Rattle.reg_take.specs.Files.{FileState}
 use Rattle.reg_take.specs.Engines.{Way, kept_if_changed, IsUnloaded, IsUntaken}
 
-never : (b : Bool) → b ≡ false → b ≡ true → ⊥
-never b e h = absurd (cc)
-
 other : (b : Bool) (x y : Content) → b ≡ false → (IsTrue b ↔ (y ≡ x)) → y ≢ x
-other b x y e same h = absurd (never b e (same.1 h))
+other b x y e same h = absurd (both_ways b e (same.1 h))
 
 module _ (a : Around) (b : Bool) (x y : Content) (lines : List ℕ) (before after : SinkState) (same : IsTrue b ↔ (y ≡ x)) where
   pub gave_same : b ≡ true → a.came x → WritesAll lines before after → (kept_if_changed a before after).gave x y lines

@@ -1,20 +1,18 @@
 -- Reading the next of some files, after those before it are read.
 use Rattle.std.proofs.Common.{◌≡◌, ◌∷◌, ◌++◌, [], Bool, true, false, List, ℕ, ◌+◌, ◌<◌, ◌≤◌, zero, suc, length, map, take, drop, get_or, slice_set, refl, ap, sym, subst, arith, inl, inr}
 use Rattle.std.proofs.lemmas.List.{take_all, length-map}
+use Rattle.std.proofs.lemmas.Bool.{both_ways}
 use Rattle.byte_io.specs.Device.{SourceState}
 use Rattle.reg_file.specs.Parts.{FindsPart, IsPartReadFromFault}
 use Rattle.reg_file.specs.declared.fault.ReadFileFault.{ReadFileFault}
 use Rattle.reg_file.specs.declared.fault.ReadFileFault.TheVariants as reading
 use Rattle.reg_file.specs.declared.parts.Part.{Part}
-use Rattle.reg_file.specs.declared.parts.Part.TheVariants as part
-use Rattle.std.specs.declared.option.Option.{Option}
-use Rattle.reg_journal.specs.Journal.{Journal}
 use Rattle.reg_engine.specs.declared.fault.CliFault.{CliFault}
 use Rattle.reg_engine.specs.declared.fault.CliFault.TheVariants as cli
 use Rattle.reg_take.specs.declared.options.TakeOptions.{TakeOptions}
 use Rattle.reg_take.specs.declared.files.Arrival.{Arrival}
 use Rattle.reg_take.specs.declared.files.Arrival.TheVariants as arrival
-use Rattle.reg_take.specs.Files.{FileState, file_state, fault_in, brought, arrived, content_of, judged, IsHonestTo, IsScreened, IsUnread, HasFault, IsArrival, IsLast, AreArrivals, StopsAt, IsStopped}
+use Rattle.reg_take.specs.Files.{FileState, file_state, fault_in, brought, judged, IsScreened, IsUnread, HasFault, IsArrival, IsLast, AreArrivals, StopsAt, IsStopped}
 
 abbrev head_of : {A : Type 0} → A → List A → A
 head_of d [] = d
@@ -24,14 +22,11 @@ abbrev tail_of : {A : Type 0} → List A → List A
 tail_of [] = []
 tail_of (x ∷ xs) = xs
 
-never : (b : Bool) → b ≡ false → b ≡ true → ⊥
-never b e h = absurd (cc)
-
 -- if the command does not keep going, each file that arrived gave a part
 part_given : (how : TakeOptions) (k : ℕ) (o n : FileState) (a : Arrival) → how.keep_going ≡ false → IsArrival how k o n a → (p : Part) × FindsPart o.source n.source p
 part_given how k o n (arrival.Register x) dry h = (h.0, h.1)
 part_given how k o n (arrival.Piece p) dry h = (h.0, h.1)
-part_given how k o n (arrival.Unread m f) dry h = absurd (never how.keep_going dry h.0)
+part_given how k o n (arrival.Unread m f) dry h = absurd (both_ways how.keep_going dry h.0)
 part_given how k o n (arrival.Forged id) dry h = (h.0, h.1)
 
 -- the fault of reading a file is a fault of the file
@@ -131,8 +126,3 @@ screened_arrival how k o n p (arrival.Register x) finds is = (p, finds, is)
 screened_arrival how k o n p (arrival.Piece q) finds is = (p, finds, is)
 screened_arrival how k o n p (arrival.Unread m f) finds is = absurd is
 screened_arrival how k o n p (arrival.Forged id) finds is = (p, finds, is)
-
--- all of a part arrives, if nobody else gave a number in the office's name
-pub all_arrives : (office : Option Journal) (p : Part) → IsHonestTo office (content_of p) → IsScreened office p (arrived p)
-all_arrives office (part.Register x) h = (refl, h)
-all_arrives office (part.Piece q) h = (refl, h)

@@ -1,22 +1,20 @@
 -- Whatever is taken, the numbers of an office are those that it gave.
-use Rattle.std.proofs.Common.{◌≡◌, ◌∷◌, [], Bool, true, false, not, ◌&&◌, ◌||◌, List, ℕ, ◌+◌, ◌≤◌, ◌<◌, zero, suc, nat_lt, Option, Some, None, Result, Ok, Err, slice_get, refl, sym, ap, subst, ◌∙◌, inl, inr, arith}
+use Rattle.std.proofs.Common.{◌≡◌, ◌∷◌, [], Bool, true, false, not, List, ℕ, ◌+◌, ◌≤◌, zero, suc, nat_lt, Option, Some, None, Result, Ok, Err, slice_get, refl, sym, ap, subst, ◌∙◌, inl, inr, arith}
 use Rattle.std.proofs.lemmas.Bool.Decides.{nat_tests}
 use Rattle.std.proofs.lemmas.Bool.{true≢false, or_cases, or_left, or_right, and_from, cases_Bool}
 use Rattle.std.specs.Cmp.{tied_itself}
 use Rattle.std.specs.Ordering.{is_eq}
-use Rattle.std.specs.List.{list_any}
-use Rattle.reg_op.specs.Set as set
 use Rattle.reg_op.specs.Set.{contains, union, contains-union}
-use Rattle.reg_op.specs.Ids.{Id, is_same, id_cmp}
+use Rattle.reg_op.specs.Ids.{Id, is_same}
 use Rattle.reg_op.specs.Finite.{any}
-use Rattle.reg_op.specs.Operations.{Op, named_in}
+use Rattle.reg_op.specs.Operations.{Op}
 use Rattle.reg_op.specs.Contents.{Content, joined, merged}
 use Rattle.reg_op.specs.Pieces.{Piece, PieceRefusal, part_of, joined_piece}
 use Rattle.reg_op.proofs.OpLemmas.{op_total, op_exact, id_total}
 use Rattle.reg_op.proofs.FiniteLemmas.{any_from_member}
 use Rattle.reg_op.proofs.ContentLemmas.{contains_op-union, kept_is_within}
 use Rattle.reg_journal.specs.Journal.{Journal, IsOffice, is_own}
-use Rattle.reg_journal.specs.Standing.{is_known, tells_forged, is_forged, IsHonest, Admits}
+use Rattle.reg_journal.specs.Standing.{is_known, tells_forged, IsHonest, Admits}
 use Rattle.reg_journal.proofs.NumbersLemmas.{numbers_in}
 use Rattle.reg_file.specs.declared.parts.Part.{Part}
 use Rattle.reg_file.specs.declared.parts.Part.TheVariants as part
@@ -28,8 +26,8 @@ use Rattle.reg_take.specs.declared.taking.LeftOut.{LeftOut}
 use Rattle.reg_take.specs.declared.taking.LeftOut.TheVariants as left
 use Rattle.reg_take.specs.declared.taking.Phase.{Phase}
 use Rattle.reg_take.specs.declared.taking.Phase.TheVariants as phase
-use Rattle.reg_take.specs.Files.{FileState, brought, arrived, content_of, judged, IsHonestTo, IsScreened, IsArrival, AreArrivals}
-use Rattle.reg_take.specs.Taken.{Progress, leaving, starting, after_register, after_piece, taken, each_taken, sorted, all_taken, with_none_left, tried_piece, tried, each_tried, tried_again, rounds, IsFar, IsTakenFrom}
+use Rattle.reg_take.specs.Files.{FileState, brought, arrived, content_of, judged, IsHonestTo, IsArrival, AreArrivals}
+use Rattle.reg_take.specs.Taken.{Progress, starting, after_register, after_piece, taken, each_taken, sorted, all_taken, with_none_left, tried_piece, tried, each_tried, tried_again, rounds, IsFar, IsTakenFrom}
 use Rattle.reg_take.specs.Take.{Takes}
 use Rattle.reg_take.specs.Own.{HasOnlyGiven}
 use Rattle.reg_take.proofs.TakenLemmas.{joined_is, piece_is}

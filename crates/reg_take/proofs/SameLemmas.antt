@@ -4,6 +4,7 @@ use Rattle.std.specs.Prelude.{IsTrue, is_some, not}
 use Rattle.std.specs.List.{list_any}
 use Rattle.std.specs.Ordering.{eq_by_cmp, is_eq}
 use Rattle.std.specs.Cmp.{Equal-is, tied_itself, both_ways}
+use Rattle.std.proofs.lemmas.Bool.{both_ways as never}
 use Rattle.reg_op.specs.Set as set
 use Rattle.reg_op.specs.Set.{contains-items, same_set}
 use Rattle.reg_op.specs.Ids.{Id, Ids}
@@ -25,20 +26,6 @@ abbrev head_of : {A : Type 0} → A → List A → A
 head_of d [] = d
 head_of d (x ∷ xs) = x
 
-abbrev tail_of : {A : Type 0} → List A → List A
-tail_of [] = []
-tail_of (x ∷ xs) = xs
-
--- lists are equal exactly if their first elements and the others are
-pub more_same : {A : Type 0} (x y : A) (xs ys ls rs : List A) → ls ≡ x ∷ xs → rs ≡ y ∷ ys → x ≡ y → (ls ≡ rs) ↔ (xs ≡ ys)
-more_same x y xs ys ls rs e f same = (
-  λ h. ap tail_of (sym e ∙ h ∙ f),
-  λ h. e ∙ ap (λ z. z ∷ xs) same ∙ ap (λ zs. y ∷ zs) h ∙ sym f,
-)
-
-pub first_same : {A : Type 0} (x y : A) (xs ys ls rs : List A) → ls ≡ x ∷ xs → rs ≡ y ∷ ys → ls ≡ rs → x ≡ y
-first_same x y xs ys ls rs e f h = ap (head_of x) (sym e ∙ h ∙ f)
-
 same_items : (s t : Ops) → set.items s ≡ set.items t → s ≡ t
 same_items s t e = same_set op_total op_exact s t (λ q. contains-items s q ∙ ap (list_any (eq_by_cmp op_cmp q)) e ∙ sym (contains-items t q))
 
@@ -51,9 +38,6 @@ same_ids s t here there =
 
 pub none_missing : (s t : Ids) → s ≡ t → first_missing s t ≡ None
 none_missing s t e = (missing_none s t).1 (λ i h. ap (λ k. set.contains k i) (sym e) ∙ h)
-
-never : (b : Bool) → b ≡ false → b ≡ true → ⊥
-never b e h = absurd (cc)
 
 is_none_so : {A : Type 0} (a : Option A) (r : Bool) → is_some a ≡ not r → r ≡ true → a ≡ None
 is_none_so None r e h = refl

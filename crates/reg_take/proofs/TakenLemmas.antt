@@ -31,24 +31,11 @@ pub left_more : (t : Progress) (o : LeftOut) (x : Content) (l m : List LeftOut) 
     → (x ≡ (leaving t o).content) × (m ≡ (leaving t o).left)
 left_more t o x l m is left more = (is, more ∙ ap (λ k. k ++ o ∷ []) left)
 
--- a register, or a piece, is joined; or it is left out
-pub register_joined : (t : Progress) (i : ℕ) (z x y : Content) (l : List LeftOut) → x ≡ t.content → l ≡ t.left → joined x z ≡ Ok y
-    → (y ≡ (after_register t i z (begun (joined t.content z))).content) × (l ≡ (after_register t i z (begun (joined t.content z))).left)
-register_joined t i z x y l is left e =
-    let same : begun (joined t.content z) ≡ Ok y = ap begun (ap (λ k. joined k z) (sym is) ∙ e) in
-    subst (λ q. (y ≡ (after_register t i z q).content) × (l ≡ (after_register t i z q).left)) (sym same) (refl, left)
-
 pub register_left : (t : Progress) (i : ℕ) (z x : Content) (l m : List LeftOut) (id : Id) → x ≡ t.content → l ≡ t.left → joined x z ≡ Err id → m ≡ l ++ left_out i (Clash id) ∷ []
     → (x ≡ (after_register t i z (begun (joined t.content z))).content) × (m ≡ (after_register t i z (begun (joined t.content z))).left)
 register_left t i z x l m id is left e more =
     let same : begun (joined t.content z) ≡ Err (Clash id) = ap begun (ap (λ k. joined k z) (sym is) ∙ e) in
     subst (λ q. (x ≡ (after_register t i z q).content) × (m ≡ (after_register t i z q).left)) (sym same) (left_more t (left_out i (Clash id)) x l m is left more)
-
-pub piece_joined : (t : Progress) (i : ℕ) (p : Piece) (x y : Content) (l : List LeftOut) → x ≡ t.content → l ≡ t.left → joined_piece x p ≡ Ok y
-    → (y ≡ (after_piece t i p (joined_piece t.content p)).content) × (l ≡ (after_piece t i p (joined_piece t.content p)).left)
-piece_joined t i p x y l is left e =
-    let same : joined_piece t.content p ≡ Ok y = ap (λ k. joined_piece k p) (sym is) ∙ e in
-    subst (λ q. (y ≡ (after_piece t i p q).content) × (l ≡ (after_piece t i p q).left)) (sym same) (refl, left)
 
 pub piece_left : (t : Progress) (i : ℕ) (p : Piece) (x : Content) (l m : List LeftOut) (why : PieceRefusal) → x ≡ t.content → l ≡ t.left → joined_piece x p ≡ Err why → m ≡ l ++ left_out i why ∷ []
     → (x ≡ (after_piece t i p (joined_piece t.content p)).content) × (m ≡ (after_piece t i p (joined_piece t.content p)).left)

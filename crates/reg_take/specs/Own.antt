@@ -1,5 +1,5 @@
 -- What a content has in the name of an office.
-use Rattle.std.specs.Prelude.{◌≡◌, ◌≤◌, true, List, ℕ}
+use Rattle.std.specs.Prelude.{◌≡◌, ◌≤◌, true}
 use Rattle.reg_op.specs.Set.{contains}
 use Rattle.reg_op.specs.Ids.{Id}
 use Rattle.reg_op.specs.Operations.{Op}

@@ -1,12 +1,12 @@
 //! Files of registers and pieces, which are opened, read and closed in turn.
 
 ghost use Rattle.std.specs.Prelude.{◌≡◌, map, option_map, false, IfOk, IfErr};
-ghost use Rattle.reg_file.specs.Parts.{FindsPart, IsPartReadFromFault};
+ghost use Rattle.reg_file.specs.Parts.{FindsPart};
 ghost use Rattle.reg_journal.specs.Standing.{is_forged, Leasts};
 ghost use Rattle.reg_take.specs.Files.{file_state, fault_in, brought, arrived, content_of, judged, IsScreened, IsUnread, IsArrival, IsLast, AreArrivals, IsStopped};
 
 use crate::options::TakeOptions;
-use byte_late::LateSource;
+use byte_io::LateSource;
 use reg_engine::{CliFault, InputFault};
 use reg_file::{Part, ReadFileFault, read_part_beside};
 use reg_from::{from_piece, from_register, register_in};

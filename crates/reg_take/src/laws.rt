@@ -1,6 +1,6 @@
 //! Laws of takes. The functions do nothing: their contracts are the laws.
 
-ghost use Rattle.std.specs.Prelude.{◌≡◌, ℕ, List, [], ◌∷◌, Some, map};
+ghost use Rattle.std.specs.Prelude.{◌≡◌, ℕ, List, [], ◌∷◌, Some};
 ghost use Rattle.reg_op.specs.Contents.{Content, IsContent};
 ghost use Rattle.reg_file.specs.declared.parts.Part.{Part};
 ghost use Rattle.reg_file.specs.declared.parts.Part.TheVariants as part;

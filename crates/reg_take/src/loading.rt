@@ -8,7 +8,7 @@ ghost use Rattle.reg_take.specs.Engines.{IsLoaded, IsUnloaded};
 
 use crate::files::{Arrival, arrivals};
 use crate::options::TakeOptions;
-use byte_late::LateSource;
+use byte_io::LateSource;
 use reg_engine::{CliFault, Store};
 use reg_state::Register;
 use std::alloc::Global;

@@ -3,7 +3,7 @@ use Rattle.std.proofs.Common.{◌≡◌, ◌↔◌, ℕ, List, [], ◌∷◌, �
 use Rattle.wkt_crs.specs.Spells.{pretty}
 use Rattle.wkt_crs.proofs.Texts.{one_value}
 use Rattle.reg_op.specs.Rows.{Row}
-use Rattle.reg_keys.proofs.OrderLemmas.{same_elements}
+use Rattle.reg_report.proofs.OrderLemmas.{same_elements}
 use Rattle.reg_texts.specs.Said.{Said, AreSaid, Says}
 use Rattle.reg_texts.specs.Listing.{Run, IsBlock, AreBlocks, key_text, status_text}
 use Rattle.reg_texts.proofs.SayingLemmas.{said_total}

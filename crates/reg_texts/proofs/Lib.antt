@@ -1,5 +1,4 @@
 mod EachLemmas
-mod RowLemmas
 mod SaidLemmas
 mod OrderLemmas
 mod SayingLemmas
@@ -8,3 +7,4 @@ mod KeySheetLemmas
 mod HeadLemmas
 mod LawLemmas
 mod GivenLemmas
+mod LeftLemmas

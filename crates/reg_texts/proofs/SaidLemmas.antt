@@ -9,11 +9,11 @@ use Rattle.reg_op.specs.Set.{Ascends}
 use Rattle.reg_report.specs.Conflicts.{KeyBytes, HasKey}
 use Rattle.reg_report.proofs.ConflictLemmas.{none_in, in_cons, in_head, in_tail}
 use Rattle.reg_report.proofs.ContenderLemmas.{one_key}
-use Rattle.reg_keys.specs.Rows.{row_cmp}
-use Rattle.reg_texts.specs.Said.{Said, IsLive, HasRow, SaysStatus, SaysSuccessor, Says}
+use Rattle.reg_report.specs.Rows.{row_cmp, HasRow}
+use Rattle.reg_texts.specs.Said.{Said, IsLive, SaysStatus, SaysSuccessor, Says}
 use Rattle.reg_texts.specs.Gathered.{IsOfSuccessor, IsSaidBy, AreOfRow, AreGathered}
 use Rattle.reg_texts.proofs.EachLemmas.{given, gives_all}
-use Rattle.reg_texts.proofs.RowLemmas.{one_row}
+use Rattle.reg_report.proofs.FoundLemmas.{one_row}
 
 one_only : {Y : Type 0} (y z : Y) → Contains (z ∷ []) y → y ≡ z
 one_only y z h = elim (in_cons y z [] h) [ inl e ↦ e | inr none ↦ absurd (none_in y none) ]

@@ -18,9 +18,10 @@ use Rattle.reg_op.specs.Set.{IsAntisymmetric, Ascends}
 use Rattle.reg_op.proofs.OpLemmas.{bytes_exact}
 use Rattle.reg_report.specs.Conflicts.{KeyBytes, key_cmp}
 use Rattle.reg_report.proofs.ConflictLemmas.{key_total, key_exact}
-use Rattle.reg_texts.specs.declared.key.KeyText.{KeyText}
+use Rattle.reg_report.specs.declared.key.KeyText.{KeyText}
+use Rattle.reg_report.specs.Keys.{key_bytes, text_cmp}
 use Rattle.reg_texts.specs.declared.saying.Saying.{Saying}
-use Rattle.reg_texts.specs.Said.{Said, said_cmp, key_bytes, by_bytes, said}
+use Rattle.reg_texts.specs.Said.{Said, said_cmp, by_bytes, said}
 use Rattle.reg_texts.specs.Texts.{IsInOrder}
 use Rattle.reg_texts.proofs.OrderLemmas.{dedup_ascends, same_items}
 
@@ -58,9 +59,6 @@ said_exact a b e =
     λ j. record { key = key j; text = text j; superseded = superseded j; by = by j }
 
 -- ---- the derived comparisons of `Saying`
-
-abbrev text_cmp : KeyText → KeyText → Ordering
-text_cmp a b = key_cmp (key_bytes a) (key_bytes b)
 
 abbrev saying_cmp : Saying → Saying → Ordering
 saying_cmp a b =

@@ -13,12 +13,12 @@ use Rattle.reg_op.specs.Rows.{Row, rows}
 use Rattle.reg_report.specs.declared.row.Row.{Row as MadeRow}
 use Rattle.reg_report.specs.Conflicts.{KeyBytes, HasKey}
 use Rattle.reg_report.specs.Lines.{status_word}
+use Rattle.reg_report.specs.Rows.{HasRow}
 use Rattle.reg_report.specs.Seen.{row_seen}
 use Rattle.reg_keys.specs.Named.{Answers}
 use Rattle.reg_texts.specs.declared.compare.Uncompared.{Uncompared}
 use Rattle.reg_texts.specs.declared.compare.Uncompared.TheVariants as why
 use Rattle.reg_texts.specs.declared.version.Version.{Version}
-use Rattle.reg_texts.specs.Said.{HasRow}
 use Rattle.reg_texts.specs.Listing.{key_text}
 use Rattle.reg_texts.specs.Gathered.{Each}
 

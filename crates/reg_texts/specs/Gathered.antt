@@ -3,7 +3,8 @@ use Rattle.std.specs.Prelude.{◌≡◌, ◌⊎◌, true, List, [], ◌∷◌, �
 use Rattle.reg_op.specs.Ids.{Id}
 use Rattle.reg_op.specs.Rows.{Row}
 use Rattle.reg_report.specs.Conflicts.{KeyBytes, HasKey}
-use Rattle.reg_texts.specs.Said.{Said, IsLive, HasRow, SaysStatus}
+use Rattle.reg_report.specs.Rows.{HasRow}
+use Rattle.reg_texts.specs.Said.{Said, IsLive, SaysStatus}
 
 -- what each of some items gives, one after another
 module _ {X Y : Type 0} (Gives : X → List Y → Type 0) where

@@ -6,3 +6,6 @@ pub mod Texts
 pub mod KeySheet
 pub mod Compare
 pub mod Given
+pub mod CompareCommands
+pub mod Differs
+pub mod With

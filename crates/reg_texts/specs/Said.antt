@@ -4,12 +4,12 @@ use Rattle.std.specs.declared.cmp.Ordering.{Ordering}
 use Rattle.std.specs.Ordering.{nat_cmp, bool_cmp, ordering_then}
 use Rattle.std.specs.Option.{option_cmp}
 use Rattle.std.specs.Cmp.Lexicographic.{slice_cmp}
-use Rattle.reg_op.specs.Ids.{Id}
 use Rattle.reg_op.specs.Rows.{Row}
 use Rattle.reg_op.specs.Set.{Ascends}
 use Rattle.reg_op.specs.declared.status.Status.TheVariants.{Superseded, Retired}
 use Rattle.reg_report.specs.Conflicts.{KeyBytes, key_cmp, HasKey}
-use Rattle.reg_texts.specs.declared.key.KeyText.{KeyText}
+use Rattle.reg_report.specs.declared.key.KeyText.{KeyText}
+use Rattle.reg_report.specs.Keys.{key_bytes}
 use Rattle.reg_texts.specs.declared.saying.Saying.{Saying}
 
 -- a statement about a text with a key: that it is valid, or that it is superseded, with the key of a superseding entry
@@ -22,11 +22,6 @@ pub record Said : Type 0 where
 -- the entry is not retired
 abbrev pub IsLive : Row → Type 0
 IsLive r = r.status ≢ Some Retired
-
--- a row of the entry
-pub record HasRow (rs : List Row) (e : Id) (r : Row) : Type 0 where
-  pub there : Contains rs r
-  pub is : r.entry ≡ e
 
 -- the row's entry is not retired, and has this text and this key
 pub record IsOf (r : Row) (s : Said) : Type 0 where
@@ -66,9 +61,6 @@ pub record AreSaid (rs : List Row) (ss : List Said) : Type 0 where
   pub each : (s : Said) → Contains ss s ↔ Says rs s
 
 -- ---- the statements of the program
-
-abbrev pub key_bytes : KeyText → KeyBytes
-key_bytes k = record { authority = k.authority.now; code = k.code.now }
 
 abbrev pub by_bytes : Option KeyText → Option KeyBytes
 by_bytes None = None

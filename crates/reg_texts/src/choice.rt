@@ -8,10 +8,9 @@ ghost use Rattle.reg_texts.specs.Gathered.{Each};
 ghost use Rattle.reg_texts.specs.Compare.{IsChosen, seen_rows};
 ghost use Rattle.reg_texts.specs.Given.{IsRival};
 
-use crate::key::{is_same_key, key_in, key_of};
-use crate::row::is_live;
+use crate::key::is_same_key;
 use reg_keys::has_key;
-use reg_report::Row;
+use reg_report::{Row, is_live, key_in, key_of};
 use std::alloc::{AllocError, Global};
 use wkt_crs::Definition;
 

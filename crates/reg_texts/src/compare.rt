@@ -7,11 +7,9 @@ ghost use Rattle.reg_texts.specs.Gathered.{Each};
 ghost use Rattle.reg_texts.specs.Compare.{IsCompared, IsHeading, IsUncompared, IsKeyCompared, IsPairOf, IsVersionOf, seen_rows};
 
 use crate::choice::{OfWord, chosen};
-use crate::row::find_row;
 use crate::version::{Version, head_of, push_pair, version_of};
-use reg_keys::rows_in_order;
 use reg_op::OpId;
-use reg_report::Row;
+use reg_report::{Row, find_row, rows};
 use reg_state::Register;
 use std::alloc::{AllocError, Global};
 
@@ -33,7 +31,7 @@ pub fn compared_text(
     ensures ok { IfOk result (λ text. IsCompared one other register.now text.items) }
     ensures fault { IfErr result (IsUncompared one other register.now) }
 {
-    let Ok(rows) = rows_in_order(alloc, register) else {
+    let Ok(rows) = rows(alloc, register) else {
         return Err(Uncompared::Memory);
     };
     let Some(first) = find_row(&rows, one) else {
@@ -53,7 +51,7 @@ pub fn heading(alloc: Global, register: &Register, entry: OpId) -> Result<Vec<u8
     ensures ok { IfOk result (λ text. IsHeading entry register.now text.items) }
     ensures fault { IfErr result (IsUncompared entry entry register.now) }
 {
-    let Ok(rows) = rows_in_order(alloc, register) else {
+    let Ok(rows) = rows(alloc, register) else {
         return Err(Uncompared::Memory);
     };
     let Some(row) = find_row(&rows, entry) else {
@@ -84,7 +82,7 @@ pub fn compared_key(
 ) -> Result<Option<Vec<u8>>, AllocError>
     ensures { IfOk result (IsKeyCompared key.now register.now) }
 {
-    let rows = rows_in_order(alloc, register)?;
+    let rows = rows(alloc, register)?;
     let found = chosen(alloc, &rows, &OfWord { key })?;
     let Some((first, others)) = found.split_first() else {
         return Ok(None);

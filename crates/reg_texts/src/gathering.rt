@@ -3,16 +3,14 @@
 ghost use Rattle.std.specs.Prelude.{◌≡◌, ◌++◌, List, map, IfOk, OnOk};
 ghost use Rattle.reg_op.specs.Set.{Ascends};
 ghost use Rattle.reg_report.specs.Seen.{row_seen};
-ghost use Rattle.reg_keys.specs.Rows.{row_cmp};
+ghost use Rattle.reg_report.specs.Rows.{row_cmp};
 ghost use Rattle.reg_texts.specs.Compare.{seen_rows};
 ghost use Rattle.reg_texts.specs.Said.{IsLive, Said, said, SaysStatus};
 ghost use Rattle.reg_texts.specs.Gathered.{Each, AreGathered, AreOfRow, IsSaidBy, IsOfSuccessor};
 
-use crate::key::key_of;
-use crate::row::{find_row, is_live};
 use crate::saying::Saying;
 use reg_op::{OpId, Status};
-use reg_report::Row;
+use reg_report::{Row, find_row, is_live, key_of};
 use std::alloc::{AllocError, Global};
 
 /// The statements of the register about the text of each row, row by row.

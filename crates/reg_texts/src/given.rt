@@ -3,9 +3,10 @@
 ghost use Rattle.std.specs.Prelude.{◌≡◌, ◌++◌, decimal, IfOk, OnOk};
 ghost use Rattle.reg_texts.specs.Given.{IsGivenHead, IsGiven, IsNoHead, IsNew};
 
-use crate::key::{key_in, push_key, push_on_line};
+use crate::key::{push_key, push_on_line};
 use crate::version::{Version, indented, push_head};
 use itoa::Buffer;
+use reg_report::key_in;
 use std::alloc::{AllocError, Global};
 use wkt_compare::added;
 use wkt_crs::Definition;

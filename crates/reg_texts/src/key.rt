@@ -1,41 +1,13 @@
-//! Keys of definitions and rows, and how they are written.
+//! Whether two keys are one, and how keys are written.
 
 ghost use Rattle.std.specs.Prelude.{◌≡◌, ◌↔◌, ◌++◌, ◌∷◌, [], map, IsTrue, OnOk};
-ghost use Rattle.reg_report.specs.Conflicts.{HasKey};
-ghost use Rattle.reg_report.specs.Seen.{row_seen};
-ghost use Rattle.reg_texts.specs.Said.{key_bytes};
+ghost use Rattle.reg_report.specs.Keys.{key_bytes};
 ghost use Rattle.reg_texts.specs.Listing.{key_text, on_line};
 ghost use Rattle.text_short.specs.Short.{short};
 
-use reg_report::Row;
+use reg_report::KeyText;
 use std::alloc::{AllocError, Global};
 use text_short::push_short;
-use wkt_crs::Definition;
-
-/// The bytes of a key, ordered by the authority and then by the code.
-#[derive(Clone, Copy, PartialEq, Eq, PartialOrd, Ord)]
-pub struct KeyText<'a> {
-    pub authority: &'a [u8],
-    pub code: &'a [u8],
-}
-
-/// The key of a definition.
-pub fn key_in(definition: &Definition) -> KeyText<'_>
-    ensures { HasKey definition.now (key_bytes result) }
-{
-    let key = definition.key();
-    KeyText {
-        authority: key.authority.as_bytes(),
-        code: key.code.as_bytes(),
-    }
-}
-
-/// The key of a row.
-pub fn key_of(row: &Row) -> KeyText<'_>
-    ensures { HasKey (row_seen row.now).definition (key_bytes result) }
-{
-    key_in(&row.definition)
-}
 
 /// Whether both are one key.
 pub fn is_same_key(one: &KeyText, other: &KeyText) -> bool

@@ -3,7 +3,7 @@
 ghost use Rattle.std.specs.Prelude.{List, IfOk, map};
 ghost use Rattle.reg_op.specs.Set.{Ascends};
 ghost use Rattle.reg_report.specs.Seen.{row_seen};
-ghost use Rattle.reg_keys.specs.Rows.{row_cmp};
+ghost use Rattle.reg_report.specs.Rows.{row_cmp};
 ghost use Rattle.reg_texts.specs.Said.{Said, said};
 ghost use Rattle.reg_texts.specs.Gathered.{Each, AreOfRow};
 ghost use Rattle.reg_texts.specs.Texts.{IsInOrder};
@@ -15,8 +15,7 @@ use crate::key_fields::{header_text, push_line};
 use crate::listing::run_len;
 use crate::saying::Saying;
 use crate::texts::in_order;
-use reg_keys::rows_in_order;
-use reg_report::Row;
+use reg_report::{Row, rows};
 use reg_state::Register;
 use std::alloc::{AllocError, Global};
 
@@ -57,7 +56,7 @@ pub fn sheet_of_keys(
 ) -> Result<Vec<u8>, AllocError>
     ensures { IfOk result (λ text. IsKeySheet register.now (seen_rows some.now) text.items) }
 {
-    let rows = rows_in_order(alloc, register)?;
+    let rows = rows(alloc, register)?;
     let made = said_of(alloc, &rows, some)?;
     let lines = lines_of(alloc, &made)?;
     let mut text = header_text(alloc)?;

@@ -1,9 +1,11 @@
-//! The texts of a register by key, each with its status; and what differs between the texts of entries.
+//! The texts of a register by key, each with its status; what differs between the texts of entries; and the engines of `texts` and
+//! `compare`.
 #![tactic(auto)]
 
 mod against;
 mod choice;
 mod compare;
+mod engines;
 mod gathering;
 mod given;
 mod key;
@@ -11,12 +13,15 @@ mod key_fields;
 mod key_lines;
 pub mod laws;
 mod listing;
-mod row;
 mod saying;
 mod texts;
 mod version;
 
 pub use against::{Unread, WhereRead, compared_texts, compared_where_read};
 pub use compare::{Uncompared, compared_key, compared_text, heading};
+pub use engines::{
+    Compare, CompareKey, CompareTo, CompareWith, ComparedPart, Heading, Texts, WithFault,
+    run_compared_where_read, run_compared_with, run_differs,
+};
 pub use key_lines::sheet_of_keys;
 pub use texts::texts_of;

@@ -1,6 +1,6 @@
 //! The statements of a register about a text.
 
-use crate::key::KeyText;
+use reg_report::KeyText;
 
 /// A statement of a register about a text with this key: that it is valid, or that it is superseded, with the key of a superseding
 /// entry. Statements are ordered by key, then by text, and then by what they say: that a text is valid comes first.

@@ -7,7 +7,7 @@ ghost use Rattle.reg_texts.specs.Texts.{IsInOrder, IsTextsOf};
 use crate::gathering::sayings;
 use crate::listing::listing;
 use crate::saying::Saying;
-use reg_keys::rows_in_order;
+use reg_report::rows;
 use reg_state::Register;
 use std::alloc::{AllocError, Global};
 
@@ -15,7 +15,7 @@ use std::alloc::{AllocError, Global};
 pub fn texts_of(alloc: Global, register: &Register) -> Result<Vec<u8>, AllocError>
     ensures { IfOk result (λ text. IsTextsOf register.now text.items) }
 {
-    let rows = rows_in_order(alloc, register)?;
+    let rows = rows(alloc, register)?;
     let made = sayings(alloc, &rows)?;
     let made = in_order(made);
     let text = listing(alloc, &made)?;

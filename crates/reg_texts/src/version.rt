@@ -7,8 +7,8 @@ ghost use Rattle.wkt_crs.specs.Spells.{pretty};
 ghost use Rattle.reg_report.specs.Seen.{row_seen};
 ghost use Rattle.reg_texts.specs.Compare.{IsVersionOf, IsPair, IsHeadOf};
 
-use crate::key::{key_of, push_key};
-use reg_report::{Row, status_word};
+use crate::key::push_key;
+use reg_report::{Row, key_of, status_word};
 use std::alloc::{AllocError, Global};
 use wkt_compare::unified;
 use wkt_crs::{Definition, write_pretty};

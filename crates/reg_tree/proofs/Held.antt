@@ -5,6 +5,7 @@ use Rattle.std.specs.Bool.{OnTrue}
 use Rattle.std.specs.Borrow.{Bor}
 use Rattle.std.proofs.lemmas.Bool.{true≢false}
 use Rattle.std.proofs.lemmas.List.{take-append-drop, map-append}
+use mathlib.Core.Bool.{or-true}
 use Rattle.reg_op.specs.Set as set
 use Rattle.reg_op.specs.Set.{contains, union, difference}
 use Rattle.reg_op.specs.Ids.{Id, Ids}
@@ -25,13 +26,9 @@ use Rattle.reg_tree.proofs.Neighbours.{more_true, one_body}
 
 -- ---- bases
 
-or_true : (b : Bool) → (b || true) ≡ true
-or_true true = refl
-or_true false = refl
-
 seen_either : (s t : Ids) (i : Id) → (contains s i ≡ true) ⊎ (contains t i ≡ true) → contains (union s t) i ≡ true
 seen_either s t i (inl h) = set.contains-union id_total s t i ∙ ap (λ b. b || contains t i) h
-seen_either s t i (inr h) = set.contains-union id_total s t i ∙ ap (λ b. contains s i || b) h ∙ or_true (contains s i)
+seen_either s t i (inr h) = set.contains-union id_total s t i ∙ ap (λ b. contains s i || b) h ∙ or-true (contains s i)
 
 held_front : (a b v : Ids) → IsHeld (union a b) v → IsHeld a v
 held_front a b v h i is = h i (seen_either a b i (inl is))

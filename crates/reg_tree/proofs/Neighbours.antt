@@ -1,11 +1,11 @@
 -- In a list of operations that is sorted by id, all operations agree if neighbours do.
-use Rattle.std.proofs.Common.{◌≡◌, ℕ, zero, suc, ◌+◌, ◌-◌, ◌<◌, ◌≤◌, Bool, true, false, not, ◌&&◌, ◌||◌, ◌⊎◌, inl, inr, List, [], ◌∷◌, length, get_or, refl, sym, ap, ◌∙◌, subst, arith}
+use Rattle.std.proofs.Common.{◌≡◌, ℕ, zero, suc, ◌+◌, ◌-◌, ◌<◌, ◌≤◌, Bool, true, false, not, ◌&&◌, inl, inr, List, [], ◌∷◌, length, get_or, refl, sym, ap, ◌∙◌, subst, arith}
 use Rattle.std.specs.Prelude.{Contains, Result, Ok, Err, IfOk}
 use Rattle.std.specs.Bool.{OnTrue}
 use Rattle.std.specs.Borrow.{Bor}
 use Rattle.std.specs.Ordering.{is_eq, is_lt, eq_by_cmp}
 use Rattle.std.specs.Cmp.{Equal-is, tied_itself}
-use Rattle.std.proofs.lemmas.Bool.{true≢false}
+use Rattle.std.proofs.lemmas.Bool.{true≢false, or_cases}
 use Rattle.std.proofs.lemmas.List.{get_or_default}
 use Rattle.std.proofs.lemmas.List.Elements.{Contains-append_left, Contains-append_right}
 use Rattle.std.specs.List.Sorted.{IsPermutation}
@@ -107,10 +107,6 @@ one_each os up agree p o h k e =
     sym x.2 ∙ any_two os up agree x.0 y.0 x.1 y.1 (ap (λ (q : Op). q.id) x.2 ∙ e ∙ ap (λ (q : Op). q.id) (sym y.2)) ∙ y.2
 
 -- ---- the operations of contents
-
-or_cases : (a b : Bool) → (a || b) ≡ true → (a ≡ true) ⊎ (b ≡ true)
-or_cases true b h = inl refl
-or_cases false b h = inr h
 
 in_items : (s : Ops) (o : Op) → set.contains s o ≡ true → Contains (set.items s) o
 in_items s o h = Contains-from_any {eq = eq_by_cmp op_cmp} (λ x y e. op_exact x y ((Equal-is (op_cmp x y)).0 e)) o (set.items s) (sym (set.contains-items s o) ∙ h)

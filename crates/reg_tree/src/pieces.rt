@@ -1,6 +1,6 @@
 //! Pieces, joined to a register at once if none is refused.
 
-ghost use Rattle.std.specs.Prelude.{◌≡◌, ◌++◌, ◌∷◌, map, Ok, Err, IfOk};
+ghost use Rattle.std.specs.Prelude.{◌≡◌, ◌∷◌, map, Ok, Err, IfOk};
 ghost use Rattle.std.specs.Bool.{OnTrue};
 ghost use Rattle.reg_op.specs.Ids.{Id};
 ghost use Rattle.reg_op.specs.Pieces.{part_of, Basis, Clash};

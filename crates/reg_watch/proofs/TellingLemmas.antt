@@ -1,5 +1,5 @@
 -- What is told of a change, from what was noted of it.
-use Rattle.std.proofs.Common.{◌≡◌, ◌⊎◌, inl, inr, sym, subst, ◌∙◌, List, ℕ, Option, None, Result, Ok}
+use Rattle.std.proofs.Common.{◌≡◌, inl, inr, ◌∙◌, List, ℕ, Option, None, Result, Ok}
 use Rattle.byte_io.specs.Device.{SinkState}
 use Rattle.reg_op.specs.Contents.{Content}
 use Rattle.reg_engine.specs.declared.fault.CliFault.{CliFault}

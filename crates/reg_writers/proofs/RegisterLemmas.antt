@@ -5,8 +5,8 @@ use Rattle.std.proofs.lemmas.List.Elements.{Contains-append_cases}
 use Rattle.std.specs.Cmp.{tied_itself}
 use Rattle.std.specs.Ordering.{is_eq, eq_by_cmp}
 use Rattle.std.specs.List.{slice_index_or}
-use Rattle.byte_writers.specs.Path.{Content as File, Stage, Begins, HasRead, Writes, IsSynced, HasLocked, Keeps, FoundSame, Withdraws, Replaced, HasPrinted, Ended}
-use Rattle.byte_writers.proofs.Kept.{Many, OnlyAdds, Gave}
+use Rattle.reg_writers.specs.Path.{Content as File, Stage, Begins, HasRead, Writes, IsSynced, HasLocked, Keeps, FoundSame, Withdraws, Replaced, HasPrinted, Ended}
+use Rattle.reg_writers.proofs.Kept.{Many, OnlyAdds, Gave}
 use Rattle.reg_op.specs.Set as set
 use Rattle.reg_op.specs.Ids.{Id, Ids}
 use Rattle.reg_op.specs.Operations.{Op, Ops, op_cmp}

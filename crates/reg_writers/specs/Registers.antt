@@ -1,6 +1,6 @@
 -- Commands on the register of a file, and the ids that a file has seen.
 use Rattle.std.specs.Prelude.{◌≡◌, ◌⊎◌, ℕ, true, false, List, [], ◌∷◌, ◌++◌, Some, None, Ok, Contains}
-use Rattle.byte_writers.specs.Path.{Content as File, Stage, Replaced, HasPrinted}
+use Rattle.reg_writers.specs.Path.{Content as File, Stage, Replaced, HasPrinted}
 use Rattle.reg_op.specs.Set as set
 use Rattle.reg_op.specs.Ids.{Id}
 use Rattle.reg_op.specs.declared.operation.OpBody.{OpBody as Body}

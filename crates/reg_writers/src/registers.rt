@@ -1,8 +1,8 @@
 //! The law of many commands that change the register of one file. The function does nothing: its contract is the law.
 
 ghost use Rattle.std.specs.Prelude.{◌≡◌, ◌⊎◌, ℕ, List};
-ghost use Rattle.byte_writers.specs.Path.{Content as File, Event, start, happens, after};
-ghost use Rattle.byte_writers.specs.Writers.{IsReplacedBy};
+ghost use Rattle.reg_writers.specs.Path.{Content as File, Event, start, happens, after};
+ghost use Rattle.reg_writers.specs.Writers.{IsReplacedBy};
 ghost use Rattle.reg_op.specs.Ids.{Id};
 ghost use Rattle.reg_writers.specs.Registers.{AreChanges, HasSeen, HasGiven};
 

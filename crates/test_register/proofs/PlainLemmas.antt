@@ -7,7 +7,7 @@ use Rattle.std.specs.Ordering.{is_eq, eq_by_cmp}
 use Rattle.std.specs.List.{list_any, filter, find}
 use Rattle.std.specs.Option.{option_map}
 use Rattle.reg_op.specs.Set as set
-use Rattle.reg_op.specs.Set.{contains, union, contains-insert, contains-empty, contains-from_list, same_set}
+use Rattle.reg_op.specs.Set.{contains, union, contains-insert, contains-from_list, same_set}
 use Rattle.reg_op.specs.Ids.{Id, id_cmp, is_same}
 use Rattle.reg_op.specs.Operations.{Op, Ops, op_cmp, one, ids, OneBody, clashes, replaces, kept, has_other_body, first_clash}
 use Rattle.reg_op.proofs.FiniteLemmas.{any_from_member, member_from_any, among, some_of}

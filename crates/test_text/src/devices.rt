@@ -1,8 +1,8 @@
 //! Tests of devices: reads, writes, and targets that are opened.
 
 use byte_io::{
-    Endless, FileTarget, Full, InFault, MemoryTarget, NotOpened, Pieces, PublishFault, Reading,
-    Room, Sink, Source, Target, Then, WriteFault, Writing, publish, read_up_to, write_all,
+    Endless, Full, InFault, MemoryTarget, NotOpened, Pieces, PublishFault, Reading, Room, Sink,
+    Source, Target, Then, WriteFault, Writing, publish, read_up_to, write_all,
 };
 use std::alloc::Global;
 
@@ -70,20 +70,4 @@ fn publishes_to_a_target_in_memory(rt: HostRuntime) {
     assert_eq!(rt; closed.open().err(), Some(NotOpened));
     assert!(rt; publishes(&mut closed, Some(PublishFault::NotOpened)));
     assert_eq!(rt; closed.taken().len(), 0);
-}
-
-#[test]
-fn publishes_to_a_file(rt: HostRuntime) {
-    let targets = [
-        (b"/dev/null".as_slice(), None),
-        (b"/dev/full", Some(PublishFault::WriteFailed(0))),
-        (b"/dev", Some(PublishFault::NotOpened)),
-        (b"/dev/null/file", Some(PublishFault::NotOpened)),
-    ];
-    for (path, fault) in targets {
-        let Ok(path) = str::from_utf8(path) else {
-            continue;
-        };
-        assert!(rt; publishes(&mut FileTarget::new(&rt, path), fault), "{path}");
-    }
 }

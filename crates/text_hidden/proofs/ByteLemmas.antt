@@ -1,6 +1,6 @@
 -- The bytes of a character, read as those of a hidden one.
-use Rattle.std.proofs.Common.{◌≡◌, ℕ, ◌+◌, ◌-◌, ◌*◌, ◌/◌, ◌%◌, ◌<◌, ◌≤◌, ◌==◌, Bool, true, false, ◌&&◌, List, [], ◌∷◌, ◌++◌, length, None, inl, inr, refl, sym, ap, ◌∙◌, arith}
-use Rattle.std.proofs.lemmas.Bool.{cases_lt, lt-ltb, le-ltb, le-leb}
+use Rattle.std.proofs.Common.{◌≡◌, ℕ, ◌+◌, ◌-◌, ◌*◌, ◌/◌, ◌%◌, ◌<◌, ◌≤◌, ◌==◌, true, false, List, [], ◌∷◌, ◌++◌, length, None, inl, inr, refl, sym, ap, ◌∙◌, arith}
+use Rattle.std.proofs.lemmas.Bool.{cases_lt, lt-ltb, le-ltb, le-leb, and_from}
 use Rattle.std.proofs.lemmas.Bool.Decides.{nat_tests}
 use Rattle.std.proofs.lemmas.Str.{encode_ascii, len_utf8_ascii}
 use Rattle.std.specs.Char.{encode_utf8, len_utf8}
@@ -117,10 +117,6 @@ no_feed b c h k = grind (arith, nat_tests)
 goes_on : (x : ℕ) → x < 64 → continues (128 + x) ≡ true
 goes_on x h = grind (arith, nat_tests)
 
-and_true : (a b : Bool) → a ≡ true → b ≡ true → (a && b) ≡ true
-and_true true b p q = q
-and_true false b p q = cc
-
 spelled_one : (c : ℕ) → c < 128 → Spelled c
 spelled_one c h = record { lead = c; others = []; is = encode_ascii c h; many = ap (λ n. n - 1) (sym (len_utf8_ascii c h)); continued = refl; feed = refl }
 
@@ -130,7 +126,7 @@ spelled_two c low high = record {
   others = (128 + c % 64) ∷ [];
   is = bytes_two c low high;
   many = ap (λ n. n - 1) (sym (len_two c low high));
-  continued = and_true _ _ (goes_on (c % 64) (omega arith)) refl;
+  continued = and_from _ _ (goes_on (c % 64) (omega arith)) refl;
   feed = no_feed (192 + c / 64) c (omega arith) low;
 }
 
@@ -140,7 +136,7 @@ spelled_three c low high = record {
   others = (128 + c / 64 % 64) ∷ (128 + c % 64) ∷ [];
   is = bytes_three c low high;
   many = ap (λ n. n - 1) (sym (len_three c low high));
-  continued = and_true _ _ (goes_on (c / 64 % 64) (omega arith)) (and_true _ _ (goes_on (c % 64) (omega arith)) refl);
+  continued = and_from _ _ (goes_on (c / 64 % 64) (omega arith)) (and_from _ _ (goes_on (c % 64) (omega arith)) refl);
   feed = no_feed (224 + c / 4096) c (omega arith) (omega arith);
 }
 
@@ -150,7 +146,7 @@ spelled_four c low = record {
   others = (128 + c / 4096 % 64) ∷ (128 + c / 64 % 64) ∷ (128 + c % 64) ∷ [];
   is = bytes_four c low;
   many = ap (λ n. n - 1) (sym (len_four c low));
-  continued = and_true _ _ (goes_on (c / 4096 % 64) (omega arith)) (and_true _ _ (goes_on (c / 64 % 64) (omega arith)) (and_true _ _ (goes_on (c % 64) (omega arith)) refl));
+  continued = and_from _ _ (goes_on (c / 4096 % 64) (omega arith)) (and_from _ _ (goes_on (c / 64 % 64) (omega arith)) (and_from _ _ (goes_on (c % 64) (omega arith)) refl));
   feed = no_feed (240 + c / 262144) c (omega arith) (omega arith);
 }
 

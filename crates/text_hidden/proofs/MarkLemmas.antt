@@ -1,25 +1,15 @@
 -- The characters of a text with marks.
-use Rattle.std.proofs.Common.{◌≡◌, ℕ, ◌/◌, ◌%◌, ◌<◌, Bool, true, false, not, ◌&&◌, ◌||◌, List, [], ◌∷◌, ◌++◌, IsUtf8, if◌then◌else◌, refl, sym, ap, ◌∙◌, append-nil, arith}
+use Rattle.std.proofs.Common.{◌≡◌, ℕ, ◌/◌, ◌%◌, ◌<◌, Bool, true, false, not, ◌||◌, List, [], ◌∷◌, ◌++◌, IsUtf8, if◌then◌else◌, refl, sym, ap, ◌∙◌, append-nil, arith}
 use Rattle.std.specs.List.{flat_map, list_all}
 use Rattle.std.specs.Str.{chars}
 use Rattle.std.proofs.lemmas.Bool.Decides.{nat_tests}
 use Rattle.std.proofs.lemmas.List.Folds.{list_all-append}
 use Rattle.std.proofs.lemmas.Str.{encode_ascii, encodes-append, chars-encodes}
+use Rattle.std.proofs.lemmas.Bool.{and_parts, and_from}
+use mathlib.Core.Bool.{or-true}
 use lib.Utf8.{scalar, scalars, encode, encodes, low_scalar}
 use Rattle.text_hidden.specs.Set.{is_hidden}
 use Rattle.text_hidden.specs.Marks.{digit, mark, shown, shown_all, Marks, hides_only}
-
-both : (a b : Bool) → a ≡ true → b ≡ true → (a && b) ≡ true
-both true b p q = q
-both false b p q = cc
-
-parts : (a b : Bool) → (a && b) ≡ true → (a ≡ true) × (b ≡ true)
-parts true b e = (refl, e)
-parts false b e = cc
-
-or_true : (a : Bool) → (a || true) ≡ true
-or_true true = refl
-or_true false = refl
 
 -- ---- the characters of a mark
 
@@ -61,7 +51,7 @@ mark_scalars c =
     (digit_small (c / 4096 % 16) (omega arith)) (digit_small (c / 256 % 16) (omega arith)) (digit_small (c / 16 % 16) (omega arith)) (digit_small (c % 16) (omega arith))
 
 plain : (kept : ℕ → Bool) (x : ℕ) → is_hidden x ≡ false → (kept x || not (is_hidden x)) ≡ true
-plain kept x e = ap (λ h. kept x || not h) e ∙ or_true (kept x)
+plain kept x e = ap (λ h. kept x || not h) e ∙ or-true (kept x)
 
 -- a character may be in what is shown
 abbrev is_seen : (ℕ → Bool) → ℕ → Bool
@@ -69,12 +59,12 @@ is_seen kept c = kept c || not (is_hidden c)
 
 mark_seen : (kept : ℕ → Bool) (c : ℕ) → list_all (is_seen kept) (mark_chars c) ≡ true
 mark_seen kept c =
-    both _ _ (plain kept 0x27E8 refl) (both _ _ (plain kept 85 refl) (both _ _ (plain kept 43 refl)
-    (both _ _ (plain kept (digit (c / 4096 % 16)) (digit_shown (c / 4096 % 16) (omega arith)))
-    (both _ _ (plain kept (digit (c / 256 % 16)) (digit_shown (c / 256 % 16) (omega arith)))
-    (both _ _ (plain kept (digit (c / 16 % 16)) (digit_shown (c / 16 % 16) (omega arith)))
-    (both _ _ (plain kept (digit (c % 16)) (digit_shown (c % 16) (omega arith)))
-    (both _ _ (plain kept 0x27E9 refl) refl)))))))
+    and_from _ _ (plain kept 0x27E8 refl) (and_from _ _ (plain kept 85 refl) (and_from _ _ (plain kept 43 refl)
+    (and_from _ _ (plain kept (digit (c / 4096 % 16)) (digit_shown (c / 4096 % 16) (omega arith)))
+    (and_from _ _ (plain kept (digit (c / 256 % 16)) (digit_shown (c / 256 % 16) (omega arith)))
+    (and_from _ _ (plain kept (digit (c / 16 % 16)) (digit_shown (c / 16 % 16) (omega arith)))
+    (and_from _ _ (plain kept (digit (c % 16)) (digit_shown (c % 16) (omega arith)))
+    (and_from _ _ (plain kept 0x27E9 refl) refl)))))))
 
 -- ---- the characters of what is shown
 
@@ -97,27 +87,27 @@ all_spelled marks (c ∷ cs) =
 
 scalars_append : (xs ys : List ℕ) → scalars xs ≡ true → scalars ys ≡ true → scalars (xs ++ ys) ≡ true
 scalars_append [] ys p q = q
-scalars_append (x ∷ xs) ys p q = let each = parts (scalar x) (scalars xs) p in both (scalar x) (scalars (xs ++ ys)) each.0 (scalars_append xs ys each.1 q)
+scalars_append (x ∷ xs) ys p q = let each = and_parts (scalar x) (scalars xs) p in and_from (scalar x) (scalars (xs ++ ys)) each.0 (scalars_append xs ys each.1 q)
 
 one_scalars : (c : ℕ) (m : Bool) → scalar c ≡ true → scalars (if m then mark_chars c else c ∷ []) ≡ true
 one_scalars c true e = mark_scalars c
-one_scalars c false e = both (scalar c) true e refl
+one_scalars c false e = and_from (scalar c) true e refl
 
 all_are_scalars : (marks : ℕ → Bool) (cs : List ℕ) → scalars cs ≡ true → scalars (flat_map (shown_chars marks) cs) ≡ true
 all_are_scalars marks [] e = refl
 all_are_scalars marks (c ∷ cs) e =
-    let each = parts (scalar c) (scalars cs) e in
+    let each = and_parts (scalar c) (scalars cs) e in
     scalars_append (shown_chars marks c) (flat_map (shown_chars marks) cs) (one_scalars c (marks c) each.0) (all_are_scalars marks cs each.1)
 
 one_seen : (kept : ℕ → Bool) (c : ℕ) (m : Bool) → (m || is_seen kept c) ≡ true → list_all (is_seen kept) (if m then mark_chars c else c ∷ []) ≡ true
 one_seen kept c true e = mark_seen kept c
-one_seen kept c false e = both (is_seen kept c) true e refl
+one_seen kept c false e = and_from (is_seen kept c) true e refl
 
 all_seen : (marks kept : ℕ → Bool) (cs : List ℕ) → Marks marks kept → list_all (is_seen kept) (flat_map (shown_chars marks) cs) ≡ true
 all_seen marks kept [] each = refl
 all_seen marks kept (c ∷ cs) each =
     list_all-append (is_seen kept) (shown_chars marks c) (flat_map (shown_chars marks) cs)
-    ∙ both (list_all (is_seen kept) (shown_chars marks c)) (list_all (is_seen kept) (flat_map (shown_chars marks) cs)) (one_seen kept c (marks c) (each c)) (all_seen marks kept cs each)
+    ∙ and_from (list_all (is_seen kept) (shown_chars marks c)) (list_all (is_seen kept) (flat_map (shown_chars marks) cs)) (one_seen kept c (marks c) (each c)) (all_seen marks kept cs each)
 
 -- the characters of what is shown
 pub chars_shown : (marks : ℕ → Bool) (cs : List ℕ) → scalars cs ≡ true → chars (shown_all marks cs) ≡ flat_map (shown_chars marks) cs

@@ -3,6 +3,7 @@ use Rattle.std.proofs.Common.{◌≡◌, ℕ, ◌≤◌, ◌<◌, ◌^◌, Bool,
 use Rattle.std.specs.Prelude.{◌&&◌, not, cond}
 use Rattle.std.specs.List.{AllPass, list_all}
 use Rattle.std.specs.Option.{is_some}
+use Rattle.std.proofs.lemmas.Bool.{and_parts, not-true}
 use Rattle.crs_part.specs.declared.many.NonEmpty.{NonEmpty}
 use Rattle.wkt_tree.specs.declared.token.TokenKind.TheVariants.{Comma, Open, Close}
 use Rattle.wkt_tree.specs.Tree.{Piece, Tok, tok, Item, Items, last, more, tokens, all_tokens}
@@ -139,11 +140,6 @@ then_one {A} {t} {D} {tree} {row} {fields} {mid} {new} n law old v m r = record 
 
 -- ---- slots that may be empty
 
-and_parts : (a b : Bool) → (a && b) ≡ true → (a ≡ true) × (b ≡ true)
-and_parts true true e = (refl, refl)
-and_parts true false e = absurd cc
-and_parts false b e = absurd cc
-
 not_both : (c t b : Bool) → not (not c && (t && b)) ≡ true → c ≡ false → b ≡ true → t ≡ false
 not_both true t b e p q = absurd cc
 not_both false true true e p q = absurd cc
@@ -261,18 +257,14 @@ pub record IsEntered (t : Takes) (x : Bare) : Type 0 where
   pub enters : enters t means ≡ Some row
   pub fitted : Fitted row items
 
-not_false : (b : Bool) → not b ≡ true → b ≡ false
-not_false true e = absurd cc
-not_false false e = refl
-
 -- the argument of a slot for nodes is a node
 pub entered_of : (t : Takes) → takes_nodes t ≡ true → (x : Bare) → Fitting t x → IsEntered t x
-entered_of t e (text b) f = let p = and_parts (not (takes t arguments.Text)) _ e in let q = sym (not_false _ p.0) ∙ f.taken in absurd cc
+entered_of t e (text b) f = let p = and_parts (not (takes t arguments.Text)) _ e in let q = sym (not-true _ p.0) ∙ f.taken in absurd cc
 entered_of t e (number b) f =
     let p = and_parts (not (takes t arguments.Text)) _ e in
     let q = and_parts (not (takes t arguments.Number)) _ p.1 in
     let r = and_parts (not (takes t arguments.Count)) _ q.1 in
-    absurd (no_number (is_count b) (not_false _ q.0) (not_false _ r.0) f.taken)
+    absurd (no_number (is_count b) (not-true _ q.0) (not-true _ r.0) f.taken)
   where
     no_number : (c : Bool) → takes t arguments.Number ≡ false → takes t arguments.Count ≡ false → takes t (cond c arguments.Count arguments.Number) ≡ true → ⊥
     no_number true p q r = let z = sym q ∙ r in cc
@@ -282,7 +274,7 @@ entered_of t e (word b) f =
     let q = and_parts (not (takes t arguments.Number)) _ p.1 in
     let r = and_parts (not (takes t arguments.Count)) _ q.1 in
     let s = and_parts (not (takes t arguments.CsKind)) _ r.1 in
-    absurd (no_word (is_cs_kind b) (is_direction b) (not_false _ s.0) (not_false _ s.1) f.taken)
+    absurd (no_word (is_cs_kind b) (is_direction b) (not-true _ s.0) (not-true _ s.1) f.taken)
   where
     no_word : (c d : Bool) → takes t arguments.CsKind ≡ false → takes t arguments.Direction ≡ false → takes t (cond c arguments.CsKind (cond d arguments.Direction arguments.OtherWord)) ≡ true → ⊥
     no_word true d p q r = let z = sym p ∙ r in cc

@@ -41,9 +41,6 @@ pub record Taken {A : Type 0} (t : Takes) (D : Bare → A → Type 0) (run : Lis
 abbrev pub TakesOn : {A : Type 0} → Takes → (Bare → A → Type 0) → List Tok → List Tok → List A → Type 0
 TakesOn t D old toks items = (run : List Bare) (end : List Tok) → AllFitting t run → Behind run old end → Follows end → comes t end ≡ false → Taken t D run items toks end
 
-pub taken_none : {A : Type 0} (t : Takes) (D : Bare → A → Type 0) (old : List Tok) (items : List A) → items ≡ [] → TakesOn t D old old items
-taken_none t D old items e run end f b o n = record { before = []; after = run; parts = refl; made = subst (λ vs. Each D vs []) (sym e) tt; fit = f; comes_after = b }
-
 each_more : {A : Type 0} (D : Bare → A → Type 0) (vs : List A) (xs : List Bare) (v : A) (x : Bare) → Each D vs xs → D x v → Each D (vs ++ v ∷ []) (xs ++ x ∷ [])
 each_more D [] [] v x e d = (d, tt)
 each_more D [] (y ∷ xs) v x e d = absurd e

@@ -1,6 +1,6 @@
 //! Building values from arguments.
 
-ghost use Rattle.std.specs.Prelude.{◌≡◌, ◌≤◌, length, false, true, List, drop, IfOk, OnOk, None, Ok};
+ghost use Rattle.std.specs.Prelude.{◌≡◌, ◌≤◌, length, false, true, drop, IfOk, OnOk, None, Ok};
 ghost use Rattle.wkt_grammar.specs.declared.table.Takes as declared;
 ghost use Rattle.wkt_grammar.specs.Bare.{Bare};
 ghost use Rattle.wkt_build.specs.Reads.{Builds, BuildsEach, BuildsOne, BuildsSome, comes};

@@ -7,7 +7,7 @@ ghost use Rattle.wkt_tree.specs.declared.token.TokenKind.TheVariants.{Word};
 ghost use Rattle.wkt_tree.specs.Tokens.{IsSound};
 ghost use Rattle.wkt_tree.specs.Faults.{view};
 ghost use Rattle.wkt_grammar.specs.Rows.{takes};
-ghost use Rattle.wkt_grammar.specs.Next.{coming, is_comma, is_open, next_is};
+ghost use Rattle.wkt_grammar.specs.Next.{coming};
 ghost use Rattle.wkt_build.specs.Ahead.{IsAhead, IsKnown, IsTold};
 ghost use Rattle.wkt_build.specs.Choices.{next_keyword};
 ghost use Rattle.wkt_build.specs.Reads.{comes};

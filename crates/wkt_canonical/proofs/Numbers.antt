@@ -242,9 +242,6 @@ not_below (negsuc n) h = cc
 pub not_below_zero : {text rest : List ℕ} → ReadsFirst is_above_zero number_tree text rest → ReadsFirst is_not_below_zero number_tree text rest
 not_below_zero r = record { value = r.value; passes = not_below r.value.coefficient r.passes; is = r.is }
 
-pub any_number : {text rest : List ℕ} → ReadsFirst is_not_below_zero number_tree text rest → ReadsFirst any number_tree text rest
-any_number r = record { value = r.value; passes = refl; is = r.is }
-
 negate_of : (c e : ℤ) → is_positive c ≡ true → unsigned_abs c < 10 ^ 34 → negsuc 39 ≤ℤ e → e ≤ℤ pos 40 → (unsigned_abs c % 10 ≡ 0 → (c ≡ pos 0) × (e ≡ pos 0)) → (n : Decimal) × (45 ∷ canonical c e ≡ canonical n.coefficient n.exponent)
 negate_of (pos zero) e p small low high tenless = cc
 negate_of (pos (suc k)) e p small low high tenless = (

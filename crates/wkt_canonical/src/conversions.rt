@@ -1,6 +1,4 @@
 //! Conversions.
-
-ghost use Rattle.std.specs.Prelude.{IfSome};
 ghost use Rattle.wkt_grammar.specs.declared.table.Keyword.TheVariants as keywords;
 ghost use Rattle.wkt_grammar.specs.Trees.{parameter_tree, conversion_tree};
 ghost use Rattle.wkt_canonical.specs.Tests.{parameter_passes, conversion_passes};

@@ -1,6 +1,4 @@
 //! Usages.
-
-ghost use Rattle.std.specs.Prelude.{IfSome};
 ghost use Rattle.wkt_grammar.specs.declared.table.Keyword.TheVariants as keywords;
 ghost use Rattle.wkt_grammar.specs.Trees.{bounding_box_tree, vertical_extent_tree, usage_tree};
 ghost use Rattle.wkt_canonical.specs.Reads.{any};

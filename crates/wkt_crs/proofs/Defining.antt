@@ -1,12 +1,12 @@
 -- Bytes that are definitions.
-use Rattle.std.proofs.Common.{◌≡◌, ℕ, nat_eq, ◌≤◌, Bool, true, false, List, [], ◌∷◌, length, refl, sym, ap, ◌∙◌, subst, arith, inl, inr}
+use Rattle.std.proofs.Common.{◌≡◌, ℕ, nat_eq, ◌≤◌, true, false, List, [], ◌∷◌, length, refl, sym, ap, ◌∙◌, subst, arith, inl, inr}
 use Rattle.std.proofs.Math.Logic.{∥∥₁_elim}
 use Rattle.std.proofs.Math.Bridge.{le_prop}
 use Rattle.std.proofs.Props.{props}
 use mathlib.Core.HLevel.{is_prop→PathP}
-use Rattle.std.specs.Prelude.{◌⊎◌, ◌&&◌, not, Option, Some, None, Result, Ok, Err, IfOk, IfErr}
+use Rattle.std.specs.Prelude.{◌⊎◌, ◌&&◌, Option, Some, None, Result, Ok, Err, IfOk, IfErr}
 use Rattle.std.specs.Cmp.Lexicographic.{pointwise}
-use Rattle.std.proofs.lemmas.Bool.{eqb-true, eq-eqb}
+use Rattle.std.proofs.lemmas.Bool.{eqb-true, eq-eqb, and_parts}
 use Rattle.crs_part.specs.declared.text.Text.{Text}
 use Rattle.crs_part.specs.declared.identifiers.Ident.{Ident}
 use Rattle.crs_value.specs.Keys.{IsKeyOf, IsFirstKey}
@@ -81,16 +81,12 @@ defines crs key name bytes h k n =
 
 -- ---- bytes that are compared
 
-both_true : (a b : Bool) → (a && b) ≡ true → (a ≡ true) × (b ≡ true)
-both_true true b h = (refl, h)
-both_true false b h = absurd cc
-
 pub same_bytes : (a b : List ℕ) → pointwise nat_eq a b ≡ true → a ≡ b
 same_bytes [] [] h = refl
 same_bytes [] (y ∷ ys) h = absurd cc
 same_bytes (x ∷ xs) [] h = absurd cc
 same_bytes (x ∷ xs) (y ∷ ys) h =
-    let t = both_true (nat_eq x y) (pointwise nat_eq xs ys) h in
+    let t = and_parts (nat_eq x y) (pointwise nat_eq xs ys) h in
     let first = eqb-true x y t.0 in
     let rest = same_bytes xs ys t.1 in
     cc
@@ -101,14 +97,6 @@ itself (x ∷ xs) = ap (λ b. b && pointwise nat_eq xs xs) (eq-eqb x x refl) ∙
 
 pub not_same : (a b : List ℕ) → pointwise nat_eq a b ≡ false → a ≡ b → ⊥
 not_same a b h e = let t = sym (itself a) ∙ (ap (λ l. pointwise nat_eq a l) e ∙ h) in absurd cc
-
-pub told_true : (b : Bool) → not b ≡ false → b ≡ true
-told_true true h = refl
-told_true false h = absurd cc
-
-pub told_false : (b : Bool) → not b ≡ true → b ≡ false
-told_false false h = refl
-told_false true h = absurd cc
 
 -- ---- texts that are definitions
 

@@ -4,13 +4,11 @@ use Rattle.std.specs.Prelude.{◌⊎◌, Result, Ok, Err, IfOk, IfErr}
 use Rattle.crs_value.specs.declared.crs.Crs.{Crs}
 use Rattle.wkt_canonical.specs.declared.crs.Seen.{Seen}
 use Rattle.wkt_canonical.specs.Reads.{IsCanonicalOf}
-use Rattle.wkt_crs.specs.declared.fault.ReadFault.{ReadFault}
 use Rattle.wkt_crs.specs.declared.fault.ReadFault.TheVariants as read
 use Rattle.wkt_crs.specs.declared.definition.DefinitionFault.{DefinitionFault}
 use Rattle.wkt_crs.specs.declared.definition.DefinitionFault.TheVariants as fault
 use Rattle.wkt_crs.specs.Spells.{Spells, SpellsCanon, canon}
-use Rattle.wkt_crs.specs.Faults.{FirstFault}
-use Rattle.wkt_crs.specs.Definition.{IsDefinition, IsNewFault, IsCanonicalFault, IsSeenFault, IsTextFault, of_read}
+use Rattle.wkt_crs.specs.Definition.{IsDefinition, IsNewFault, IsCanonicalFault, IsSeenFault, IsTextFault}
 use Rattle.wkt_write.specs.CondensedLaw.{IsReadAs}
 use Rattle.wkt_crs.proofs.Condensed.{spells_as, canon_as}
 use Rattle.wkt_crs.proofs.Texts.{one_value}
@@ -101,11 +99,3 @@ value_fault (Err f) text v s h = new_fault text v f s h
 pub value_only : (r : Given) (text : List ℕ) (v w : Crs) → Spells text v → (IsDefinition (canon v) → (r ≡ Ok (canon v)) ⊎ (r ≡ Err fault.Memory)) → Spells text w → IsDefinition (canon w)
     → (r ≡ Ok (canon w)) ⊎ (r ≡ Err fault.Memory)
 value_only r text v w s only t d = subst (λ u. IsDefinition (canon u) → (r ≡ Ok (canon u)) ⊎ (r ≡ Err fault.Memory)) (one_value text v w s t) only d
-
--- ---- a text that spells no value
-
-pub text_refused : (text : List ℕ) (f : ReadFault) → FirstFault text f → IsTextFault text (of_read f)
-text_refused text (read.Text f) h = h
-text_refused text (read.Slot f) h = h
-text_refused text (read.Broken condition at) h = h
-text_refused text read.Memory h = tt

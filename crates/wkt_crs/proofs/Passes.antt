@@ -51,13 +51,6 @@ goes_more old cur cur' g n p items d c rest e =
       | inr next ↦ behind_item next.1 (drop 1 cur) cur' d c rest p (ap (drop 1) next.2)
     ]
 
-pub goes_end : (old cur : List Tok) → GoesOn old cur → next_is is_comma cur ≡ false → PassesItems old (drop 1 cur)
-goes_end old cur g n items d c rest e =
-    elim (g items d c rest e) [
-      | inl end ↦ ap (drop 1) end
-      | inr next ↦ let m = sym (ap (next_is is_comma) next.2) ∙ n in absurd cc
-    ]
-
 -- ---- the same statements, for the lists of tokens that the code has
 
 pub node_goes_at : (old one two new : List Tok) (a b : Bool) → a ≡ next_is is_word old → one ≡ drop 1 old → a ≡ true → b ≡ next_is is_open one → b ≡ true → two ≡ drop 1 one → PassesItems two new → PassesItem old new

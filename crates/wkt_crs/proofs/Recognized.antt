@@ -4,7 +4,7 @@ use Rattle.std.specs.Prelude.{Option, Some, None}
 use Rattle.std.specs.Str.{is_utf8}
 use Rattle.crs_number.proofs.Spelled.{canonical_spells as numeral_spells}
 use Rattle.crs_part.proofs.Spelled.{spelled_is_utf8}
-use Rattle.crs_part.specs.Slots.{ids_of, name_of}
+use Rattle.crs_part.specs.Slots.{ids_of}
 use Rattle.crs_part.specs.declared.text.Text.{Text}
 use Rattle.crs_part.specs.declared.identifiers.Ident.{Ident}
 use Rattle.crs_part.specs.declared.identifiers.NumberOrText.{NumberOrText}
@@ -86,9 +86,6 @@ authority_utf8 first r e = let f = first_seen first r e in ap is_utf8 (sym f.ide
 
 pub key_code_utf8 : {seen : Seen} {bytes : List ℕ} (first : Identifier) → IsCanonicalOf seen bytes → seen.identifier ≡ Some first → is_utf8 first.code.now ≡ true
 key_code_utf8 first r e = let f = first_seen first r e in ap is_utf8 (sym f.identifies.code) ∙ code_utf8 f.id.code
-
-pub name_utf8 : {seen : Seen} {bytes : List ℕ} → IsCanonicalOf seen bytes → is_utf8 seen.name.now ≡ true
-name_utf8 r = ap is_utf8 (sym r.seen_of.name) ∙ (name_of r.value).utf8
 
 -- ---- the definition that such a text is
 

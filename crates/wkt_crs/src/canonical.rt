@@ -1,6 +1,6 @@
 //! The canonical text of the value that a text spells.
 
-ghost use Rattle.std.specs.Prelude.{◌≡◌, ◌≤◌, true, length, IfOk, IfErr, IfSome};
+ghost use Rattle.std.specs.Prelude.{◌≡◌, true, IfOk, IfErr, IfSome};
 ghost use Rattle.crs_value.specs.declared.crs.Crs.{Crs};
 ghost use Rattle.wkt_tree.specs.declared.fault.TextFault.{TextFault};
 ghost use Rattle.wkt_tree.specs.Faults as tree;

@@ -2,7 +2,6 @@
 
 ghost use Rattle.std.specs.Prelude.{◌≡◌, ◌≤◌, ◌⊎◌, true, false, length, Some, Ok, Err, IfOk, IfErr, IfSome};
 ghost use Rattle.std.specs.Str.{is_utf8};
-ghost use Rattle.crs_part.specs.Slots.{ids_of};
 ghost use Rattle.wkt_tree.specs.declared.fault.TextFault.{TextFault};
 ghost use Rattle.wkt_tree.specs.Faults as tree;
 ghost use Rattle.wkt_grammar.specs.declared.fault.SlotFault.{SlotFault};

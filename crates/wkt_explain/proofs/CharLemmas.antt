@@ -60,10 +60,6 @@ chars-split (b ∷ bs) h =
 pub counted : (n : ℕ) (xs : List (List ℕ)) (c : List ℕ) (cs : List (List ℕ)) (total : ℕ) → n + length xs ≡ total → xs ≡ c ∷ cs → (n + 1) + length cs ≡ total
 counted n xs c cs total h e = let k : length xs ≡ length (c ∷ cs) = ap length e in omega arith
 
-pub drop_step : (n : ℕ) (xs : List (List ℕ)) (c : List ℕ) (cs : List (List ℕ)) → 0 < n → xs ≡ c ∷ cs → drop n xs ≡ drop (n - 1) cs
-drop_step zero xs c cs h e = absurd (omega arith)
-drop_step (suc n) xs c cs h e = ap (drop (suc n)) e ∙ ap (λ m. drop m cs) (let k : n ≡ suc n - 1 = omega arith in k)
-
 pub drop_none : (n : ℕ) → drop n (chars []) ≡ chars []
 drop_none zero = refl
 drop_none (suc n) = ap (drop (suc n)) chars-nil ∙ sym chars-nil

@@ -1,14 +1,14 @@
 -- The first characters of a prefix of some bytes are those of the bytes.
-use Rattle.std.proofs.Common.{◌≡◌, ℕ, zero, suc, ◌+◌, ◌-◌, ◌*◌, ◌<◌, ◌≤◌, Bool, true, false, ◌&&◌, cond, List, [], ◌∷◌, ◌++◌, length, take, drop, min, nat_le, nat_lt, refl, ap, sym, ◌∙◌, arith, append_assoc, length-drop}
+use Rattle.std.proofs.Common.{◌≡◌, ℕ, zero, suc, ◌+◌, ◌-◌, ◌*◌, ◌<◌, ◌≤◌, Bool, true, false, cond, List, [], ◌∷◌, ◌++◌, length, take, drop, min, nat_le, nat_lt, refl, ap, sym, ◌∙◌, arith, append_assoc, length-drop}
 use Rattle.std.specs.Str.{is_utf8}
 use Rattle.std.proofs.lemmas.Bool.Decides.{nat_tests}
 use Rattle.std.proofs.lemmas.List.{length-take, drop-take, length-append}
 use Rattle.std.proofs.Math.Nat.{min-le_left, min-le_right, le-min}
 use Rattle.std.proofs.Math.Seq.{take-add}
+use Rattle.std.proofs.lemmas.Bool.{and_parts, and_from}
 use Rattle.wkt_explain.specs.Characters.{is_wide, first_len, chars}
 use Rattle.wkt_explain.specs.Walk.{AreWhole}
 use Rattle.wkt_explain.proofs.CharLemmas.{chars-nil, chars-split, first_len-bounds}
-use Rattle.wkt_explain.proofs.LineLemmas.{both}
 
 pub front_of_front : {X : Type 0} (k n : ℕ) (xs : List X) → k ≤ n → take k (take n xs) ≡ take k xs
 front_of_front zero n xs le = refl
@@ -22,9 +22,6 @@ nothing_taken (suc n) = refl
 
 -- ---- the length of the first character
 
-both_hold : (a b : Bool) → a ≡ true → b ≡ true → (a && b) ≡ true
-both_hold a b h k = ap (λ x. x && b) h ∙ k
-
 is_le : (n m : ℕ) → nat_le n m ≡ true → n ≤ m
 is_le n m h = grind (arith, nat_tests)
 
@@ -33,18 +30,18 @@ le_is n m h = grind (arith, nat_tests)
 
 wide_front : (k n : ℕ) (bytes : List ℕ) → is_wide k bytes ≡ true → k ≤ n → is_wide k (take n bytes) ≡ true
 wide_front k n bytes h le =
-    let parts = both (nat_le k (length bytes)) (is_utf8 (take k bytes)) h in
-    both_hold (nat_le k (length (take n bytes))) (is_utf8 (take k (take n bytes)))
+    let parts = and_parts (nat_le k (length bytes)) (is_utf8 (take k bytes)) h in
+    and_from (nat_le k (length (take n bytes))) (is_utf8 (take k (take n bytes)))
     (ap (nat_le k) (length-take n bytes) ∙ le_is k (min n (length bytes)) (le-min le (is_le k (length bytes) parts.0)))
     (ap is_utf8 (front_of_front k n bytes le) ∙ parts.1)
 
 wide_back : (k n : ℕ) (bytes : List ℕ) → is_wide k (take n bytes) ≡ true → is_wide k bytes ≡ true
 wide_back k n bytes h =
-    let parts = both (nat_le k (length (take n bytes))) (is_utf8 (take k (take n bytes))) h in
+    let parts = and_parts (nat_le k (length (take n bytes))) (is_utf8 (take k (take n bytes))) h in
     let le : k ≤ min n (length bytes) = is_le k (min n (length bytes)) (ap (nat_le k) (sym (length-take n bytes)) ∙ parts.0) in
     let left : min n (length bytes) ≤ n = min-le_left n (length bytes) in
     let right : min n (length bytes) ≤ length bytes = min-le_right n (length bytes) in
-    both_hold (nat_le k (length bytes)) (is_utf8 (take k bytes))
+    and_from (nat_le k (length bytes)) (is_utf8 (take k bytes))
     (le_is k (length bytes) (omega arith))
     (ap is_utf8 (sym (front_of_front k n bytes (omega arith))) ∙ parts.1)
 

@@ -4,20 +4,15 @@ use Rattle.std.specs.List.{list_all, prefix_len, suffix_len}
 use Rattle.std.proofs.lemmas.List.{append-nil, drop_all, reverse-append, reverse-reverse, length-reverse, length-append, drop-append-le, take-append-drop, take_at, drop_at}
 use Rattle.std.proofs.lemmas.List.Sums.{suffix_len-le-length, sum_by-append}
 use Rattle.std.proofs.lemmas.List.Folds.{list_all-append}
+use Rattle.std.proofs.lemmas.Bool.{and_parts}
 use Rattle.wkt_explain.specs.Position.{goes_on, last_line, feeds}
 
 -- ---- tests of all elements
 
-pub both : (a b : Bool) → (a && b) ≡ true → (a ≡ true) × (b ≡ true)
-both true true h = (refl, refl)
-both true false h = (refl, h)
-both false true h = (h, refl)
-both false false h = (h, h)
-
 all_reversed : (p : ℕ → Bool) (xs : List ℕ) → list_all p xs ≡ true → list_all p (reverse xs) ≡ true
 all_reversed p [] h = refl
 all_reversed p (x ∷ xs) h =
-    let parts = both (p x) (list_all p xs) h in
+    let parts = and_parts (p x) (list_all p xs) h in
     ap (list_all p) (reverse-append (x ∷ []) xs)
     ∙ list_all-append p (reverse xs) (x ∷ [])
     ∙ ap (λ b. b && (p x && true)) (all_reversed p xs parts.1)
@@ -95,7 +90,7 @@ one_more before b h =
 pub line_grows : (before more : List ℕ) → list_all goes_on more ≡ true → last_line (before ++ more) ≡ last_line before ++ more
 line_grows before [] h = ap last_line (append-nil before) ∙ sym (append-nil (last_line before))
 line_grows before (b ∷ bs) h =
-    let parts = both (goes_on b) (list_all goes_on bs) h in
+    let parts = and_parts (goes_on b) (list_all goes_on bs) h in
     ap last_line (sym (append_assoc before (b ∷ []) bs))
     ∙ line_grows (before ++ b ∷ []) bs parts.1
     ∙ ap (λ l. l ++ bs) (one_more before b parts.0)
@@ -112,5 +107,5 @@ none_of b h = elim (b == 10) as (λ t. not t ≡ true → 0 + cond t 1 0 ≡ 0) 
 pub no_feeds : (xs : List ℕ) → list_all goes_on xs ≡ true → feeds xs ≡ 0
 no_feeds [] h = refl
 no_feeds (b ∷ bs) h =
-    let parts = both (goes_on b) (list_all goes_on bs) h in
+    let parts = and_parts (goes_on b) (list_all goes_on bs) h in
     feeds-append (b ∷ []) bs ∙ ap (λ n. n + feeds bs) (none_of b parts.0) ∙ ap (λ n. 0 + n) (no_feeds bs parts.1)

@@ -1,5 +1,5 @@
 -- Places behind a byte order mark at the front of a file.
-use Rattle.std.proofs.Common.{◌≡◌, ℕ, zero, suc, ◌+◌, ◌-◌, ◌≤◌, ◌<◌, Bool, true, false, ◌&&◌, nat_eq, cond, List, [], ◌∷◌, length, take, drop, refl, ap, sym, subst, ◌∙◌, arith, length-drop}
+use Rattle.std.proofs.Common.{◌≡◌, ℕ, zero, suc, ◌+◌, ◌-◌, ◌≤◌, ◌<◌, Bool, true, false, ◌&&◌, nat_eq, cond, List, [], ◌∷◌, length, take, drop, refl, ap, sym, subst, ◌∙◌, arith}
 use Rattle.std.proofs.lemmas.List.{drop-take, length-take}
 use Rattle.wkt_explain.specs.Position.{begins_mark, behind_mark}
 use Rattle.wkt_explain.specs.declared.walk.Spot.{Spot}
@@ -55,9 +55,6 @@ rest_cut : (place : ℕ) (file : List ℕ) → begins_mark file ≡ true → 3 �
 rest_cut place file h le =
     let whole : 3 + (place - 3) ≡ place = omega arith in
     ap (λ n. drop n file) (sym whole) ∙ drop_more 3 (place - 3) file ∙ ap (drop (place - 3)) (sym (cut file h))
-
-pub length_cut : (file : List ℕ) → begins_mark file ≡ true → length (behind_mark file) ≡ length file - 3
-length_cut file h = ap length (cut file h) ∙ length-drop 3 file
 
 -- ---- the spot of a place of the file, by that of a place in the walk
 

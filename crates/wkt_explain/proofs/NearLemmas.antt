@@ -6,7 +6,7 @@ use Rattle.std.proofs.Math.Seq.{drop-append-add}
 use Rattle.wkt_explain.specs.Characters.{chars}
 use Rattle.wkt_explain.specs.Position.{goes_on, first_line, last_line, without_return, line_number, column, feeds, text_in}
 use Rattle.wkt_explain.specs.Shown
-use Rattle.wkt_explain.specs.Shown.{shown, shown_before, around, shown_lines}
+use Rattle.wkt_explain.specs.Shown.{shown, around, shown_lines}
 use Rattle.wkt_explain.specs.Walk.{AreWhole, IsInLine, IsFar}
 use Rattle.wkt_explain.proofs.LineLemmas.{line_grows, feeds-append, no_feeds}
 use Rattle.wkt_explain.proofs.FrontLemmas.{front_of_front, first_chars_of_front, many_chars}

@@ -5,11 +5,12 @@ use Rattle.std.proofs.lemmas.Bool.Decides.{nat_tests}
 use Rattle.std.proofs.lemmas.List.{take-append-drop, drop-take, length-take-le}
 use Rattle.std.proofs.lemmas.List.Folds.{list_all-append}
 use Rattle.std.proofs.Math.Seq.{take-add}
+use Rattle.std.proofs.lemmas.Bool.{and_parts}
 use Rattle.wkt_explain.specs.Characters.{first_len, chars}
 use Rattle.wkt_explain.specs.Position.{goes_on, last_line, line_number, feeds, text_in}
 use Rattle.wkt_explain.specs.Walk.{AreWhole, IsInLine}
 use Rattle.wkt_explain.proofs.CharLemmas.{chars-nil, first_len-bounds}
-use Rattle.wkt_explain.proofs.LineLemmas.{both, last_line-goes_on, lines_end, line_grows, feeds-append, no_feeds}
+use Rattle.wkt_explain.proofs.LineLemmas.{last_line-goes_on, lines_end, line_grows, feeds-append, no_feeds}
 use Rattle.wkt_explain.proofs.FrontLemmas.{first_len-small, front_of_front, one_more_whole, none_whole}
 
 -- ---- the bytes between two places
@@ -103,7 +104,7 @@ char_stepped file at place k inside ahead within e =
     let left : length (drop at file) ≡ length file - at = length-drop at file in
     let bounds = first_len-bounds (drop at file) (omega (arith, left)) in
     let small : first_len (drop at file) ≤ 4 = first_len-small (drop at file) in
-    let parts = both (list_all goes_on (take k b)) (list_all goes_on (drop k b))
+    let parts = and_parts (list_all goes_on (take k b)) (list_all goes_on (drop k b))
     (sym (list_all-append goes_on (take k b) (drop k b)) ∙ ap (list_all goes_on) (take-append-drop k b) ∙ inside.1) in
     let grown : take (at + k) file ≡ take at file ++ take k b = begun file at place k inside.0 (omega (arith, e, small)) in
     let all : feeds (take (at + k) file) ≡ feeds (take at file) + feeds (take k b) = ap feeds grown ∙ feeds-append (take at file) (take k b) in

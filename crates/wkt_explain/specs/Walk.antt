@@ -1,5 +1,5 @@
 -- The state of a walk through a file, at a place.
-use Rattle.std.specs.Prelude.{◌≡◌, ◌⊎◌, ◌+◌, ◌≤◌, ◌++◌, ℕ, true, List, take, drop}
+use Rattle.std.specs.Prelude.{◌≡◌, ◌⊎◌, ◌+◌, ◌≤◌, ◌++◌, ℕ, true, List, take}
 use Rattle.std.specs.List.{list_all}
 use Rattle.wkt_explain.specs.Characters.{chars}
 use Rattle.wkt_explain.specs.Position.{goes_on, first_line, last_line, without_return, line_number, column, text_in}

@@ -1,6 +1,6 @@
 //! The characters of some bytes.
 
-ghost use Rattle.std.specs.Prelude.{◌≡◌, ◌<◌, ◌≤◌, ◌∷◌, ◌+◌, [], take, drop, length, MatchOption};
+ghost use Rattle.std.specs.Prelude.{◌≡◌, ◌<◌, ◌≤◌, ◌∷◌, ◌+◌, [], drop, length, MatchOption};
 ghost use Rattle.std.specs.Str.{is_utf8};
 ghost use Rattle.wkt_explain.specs.Characters.{chars, first_len, is_wide};
 

@@ -1,6 +1,6 @@
 //! The explanation of a refusal.
 
-ghost use Rattle.std.specs.Prelude.{◌≡◌, ◌++◌, ◌+◌, ◌∷◌, ◌≤◌, [], ℕ, List, take, drop, length, map, min, codes, decimal, Option, IfOk, OnOk};
+ghost use Rattle.std.specs.Prelude.{◌≡◌, ◌++◌, ◌+◌, ◌∷◌, ◌≤◌, [], ℕ, List, take, drop, length, map, min, decimal, Option, IfOk, OnOk};
 ghost use Rattle.std.specs.List.{flat_map};
 ghost use Rattle.wkt_explain.specs.Characters.{chars};
 ghost use Rattle.wkt_explain.specs.Position.{behind_mark};

@@ -2,7 +2,7 @@
 
 ghost use Rattle.std.specs.Prelude.{◌≡◌, true, [], map, IfOk, OnOk};
 ghost use Rattle.wkt_tree.specs.Bytes.{is_blank, is_word_byte};
-ghost use Rattle.wkt_explain.specs.Path.{piece_of, trail_seen, start, outside, takes, open_at, is_named, path_at};
+ghost use Rattle.wkt_explain.specs.Path.{piece_of, trail_seen, start, outside, takes, open_at, path_at};
 
 use std::alloc::{AllocError, Global};
 use std::mem;

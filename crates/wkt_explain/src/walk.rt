@@ -1,6 +1,6 @@
 //! A walk through a file, which counts lines, and characters in a line.
 
-ghost use Rattle.std.specs.Prelude.{◌≡◌, ◌+◌, ◌-◌, ◌<◌, ◌≤◌, ◌++◌, length, take, drop};
+ghost use Rattle.std.specs.Prelude.{◌≡◌, ◌+◌, ◌-◌, ◌<◌, ◌≤◌, length, take, drop};
 ghost use Rattle.std.specs.List.{suffix_len};
 ghost use Rattle.wkt_explain.specs.Characters.{chars, first_len};
 ghost use Rattle.wkt_explain.specs.Position.{goes_on, last_line, line_number, text_in, feeds};

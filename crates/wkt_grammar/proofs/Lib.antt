@@ -1,6 +1,7 @@
 pub mod Walks
 pub mod Missing
 pub mod Tables
+mod RowNames
 pub mod Editions
 pub mod Keywords
 pub mod Steps

@@ -102,10 +102,6 @@ first_missing_is row args at n e m =
     let h = lacks_walk args row false at n e m in
     record { before = h.before; slot = h.slot; after = h.after; parts = h.parts; fit = left_fits h.before args h.fit; required = h.required; is = h.is }
 
-pub ended_missing : (ed : Edition) (node : Node) (place : RowPosition) (r : Option SlotName) → r ≡ missing (drop place.slot (row_of ed node)) place.filled → IfSome r (λ n. (args : List Argument) → IsAt ed node args place → FirstMissing (row_of ed node) args n)
-ended_missing ed node place None h = tt
-ended_missing ed node place (Some p) h = λ args e. first_missing_is (row_of ed node) args _ p e (sym h)
-
 -- ---- rows whose first slots the arguments fit
 
 may_begin_front : (before tail : List Slot) (a : Argument) → may_begin before a ≡ true → may_begin (before ++ tail) a ≡ true

@@ -379,12 +379,6 @@ vertical_law t s =
     (λ v w k h. λ i. record { name = (h i).0; datum = (h i).1.0; system = (h i).1.1.0; axes = (h i).1.1.1.0; unit = (h i).1.1.1.1.0; geoid_models = (h i).1.1.1.1.1.0; usages = (h i).1.1.1.1.1.1.0; ids = (h i).1.1.1.1.1.1.1.0; remark = (h i).1.1.1.1.1.1.1.1.0 })
     (one slots.Name text_law >> one slots.Datum vertical_frame_law >> one slots.Cs system_law >> some slots.Axis axis_law >> maybe slots.Unit unit_law >> each slots.GeoidModel geoid_model_law >> each slots.Usage usage_law >> each slots.Id ident_law >> maybe slots.Remark remark_law >> done)
 
--- the keyword of a single reference system
-abbrev single_keyword : Single → Keyword
-single_keyword (single.Geodetic v) = geodetic_keyword v.kind
-single_keyword (single.Projected v) = keywords.ProjectedCrs
-single_keyword (single.Vertical v) = keywords.VerticalCrs
-
 no_projected : (v : GeodeticKind) → geodetic_keyword v ≡ keywords.ProjectedCrs → ⊥
 no_projected geodetic_kind.Geodetic e = cc
 no_projected geodetic_kind.Geographic e = cc

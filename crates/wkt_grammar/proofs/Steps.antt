@@ -204,25 +204,6 @@ pub err_more : (ed : Edition) (n : Node) (p : RowPosition) (f : SlotFault) (old 
 err_more ed n p f old cur one cur' new g m s a items d c rest e =
     let x = on_comma ed n p old cur items d c rest g m e in x.2 ∙ item_err ed n p x.0 one cur' f d c rest a (s ∙ x.1)
 
--- without a comma, the node ends, and its fault is that of the first missing slot
-on_end : (ed : Edition) (n : Node) (p : RowPosition) (old cur : List Tok) (items : Items) (d : Delimiter) (c : Piece) (rest : List Tok) → GoesOn ed n old cur p → next_is is_comma cur ≡ false → old ≡ all_tokens items ++ tok (Close d) c ∷ rest
-    → (cur ≡ tok (Close d) c ∷ rest) × (items_fault ed n (row_of ed n) false items c.place ≡ option_map (λ s. Missing s c.place) (missing (rest_at ed n p) p.filled))
-on_end ed n p old cur items d c rest g m e =
-    elim (g items d c rest e).1 [
-      | inl end ↦ (end.0, end.1 ∙ ap (λ b. option_map (λ s. Missing s c.place) (missing (rest_at ed n p) b)) (sym (g items d c rest e).0))
-      | inr on ↦ let w = sym (ap (next_is is_comma) on.2) ∙ m in absurd cc
-    ]
-
-pub ends_well : (ed : Edition) (n : Node) (p : RowPosition) (u : Unit {0}) (old cur one : List Tok) → GoesOn ed n old cur p → next_is is_comma cur ≡ false → one ≡ drop 1 cur → None ≡ missing (rest_at ed n p) p.filled → AnswersNode ed n old one (Ok u)
-ends_well ed n p u old cur one g m s x items d c rest e =
-    let y = on_end ed n p old cur items d c rest g m e in (s ∙ ap (drop 1) y.0, y.1 ∙ ap (option_map (λ s. Missing s c.place)) (sym x))
-
-pub ends_short : (ed : Edition) (n : Node) (p : RowPosition) (slot : SlotName) (at : ℕ) (old cur one : List Tok) → GoesOn ed n old cur p → next_is is_comma cur ≡ false → at ≡ place_next cur → Some slot ≡ missing (rest_at ed n p) p.filled → AnswersNode ed n old one (Err (Missing slot at))
-ends_short ed n p slot at old cur one g m s x items d c rest e =
-    let y = on_end ed n p old cur items d c rest g m e in
-    let same : c.place ≡ at = sym (s ∙ ap place_next y.0) in
-    y.1 ∙ (ap (option_map (λ s. Missing s c.place)) (sym x) ∙ ap (λ k. Some (Missing slot k)) same)
-
 -- ---- the same statements, for the lists of tokens that the code has
 
 module _ (ed : Edition) (n : Node) (at : RowPosition) (old one : List Tok) (t : Token) (a : Argument) (opens : Bool) where

@@ -378,27 +378,3 @@ missing_unfit ed node at n0 args h m f =
     let same : ◌≡◌ {A = Stands} g.0 at = cc in
     let n : missing at.0 at.1 ≡ None = subst (λ (x : Stands). missing x.0 x.1 ≡ None) same g.2 in
     cc
-
--- the result of a step is that of `next`, as a position in the row
-abbrev Answered : Edition → Node → RowPosition → Argument → Option RowPosition → Type 0
-Answered ed node place a r = MatchOption r (next (drop place.slot (row_of ed node)) place.filled a ≡ None) (λ p. (next (drop place.slot (row_of ed node)) place.filled a ≡ Some (drop p.slot (row_of ed node))) × (p.slot ≤ length (row_of ed node)) × (p.filled ≡ true))
-
-pub answered_at : (ed : Edition) (node : Node) (place : RowPosition) (a : Argument) (r : Option RowPosition) → Answered ed node place a r → IfSome r (λ p. (args : List Argument) → IsAt ed node args place → IsAt ed node (args ++ a ∷ []) p)
-answered_at ed node place a None h = tt
-answered_at ed node place a (Some p) h = λ args e. step_at ed node place.slot place.filled a (drop p.slot (row_of ed node)) h.0 args e ∙ ap (λ f. Some (drop p.slot (row_of ed node), f)) (sym h.2)
-
-pub answered_admitted : (ed : Edition) (node : Node) (place : RowPosition) (a : Argument) (r : Option RowPosition) → Answered ed node place a r → IfSome r (λ p. (args : List Argument) → IsAt ed node args place → Admitted (row_of ed node) (args ++ a ∷ []))
-answered_admitted ed node place a None h = tt
-answered_admitted ed node place a (Some p) h = λ args e. admits (row_of ed node) (args ++ a ∷ []) _ (step_at ed node place.slot place.filled a (drop p.slot (row_of ed node)) h.0 args e)
-
-pub answered_refused : (ed : Edition) (node : Node) (place : RowPosition) (a : Argument) (r : Option RowPosition) → Answered ed node place a r → IfNone r ((args : List Argument) → IsAt ed node args place → Admitted (row_of ed node) (args ++ a ∷ []) → ⊥)
-answered_refused ed node place a None h = λ args e. step_refused ed node place.slot place.filled a h args e
-answered_refused ed node place a (Some p) h = tt
-
-pub ended_fits : (ed : Edition) (node : Node) (place : RowPosition) (r : Option SlotName) → r ≡ missing (drop place.slot (row_of ed node)) place.filled → IfNone r ((args : List Argument) → IsAt ed node args place → Fits (row_of ed node) args)
-ended_fits ed node place None h = λ args e. end_fits (row_of ed node) args _ e (sym h)
-ended_fits ed node place (Some p) h = tt
-
-pub ended_unfit : (ed : Edition) (node : Node) (place : RowPosition) (r : Option SlotName) → r ≡ missing (drop place.slot (row_of ed node)) place.filled → IfSome r (λ _. (args : List Argument) → IsAt ed node args place → Fits (row_of ed node) args → ⊥)
-ended_unfit ed node place None h = tt
-ended_unfit ed node place (Some p) h = λ args e. missing_unfit ed node _ p args e (sym h)

@@ -2,6 +2,7 @@ pub mod Rows
 pub mod Walk
 pub mod Words
 pub mod Names
+pub mod RowNames
 pub mod Editions
 pub mod Ensembles
 pub mod Slots

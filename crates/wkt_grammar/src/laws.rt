@@ -1,6 +1,6 @@
 //! The laws of the table, and of its editions.
 
-ghost use Rattle.std.specs.Prelude.{◌≡◌, ◌<◌, ◌++◌, ◌∷◌, ◌↔◌, [], List, ℕ, true, false, length, get_or, Some};
+ghost use Rattle.std.specs.Prelude.{◌≡◌, ◌<◌, ◌++◌, ◌∷◌, ◌↔◌, [], List, ℕ, true, false, length, get_or, map, Some};
 ghost use Rattle.wkt_grammar.specs.declared.table.Edition.{Edition};
 ghost use Rattle.wkt_grammar.specs.declared.table.Edition.TheVariants as editions;
 ghost use Rattle.wkt_grammar.specs.declared.table.Node.{Node};
@@ -11,6 +11,8 @@ ghost use Rattle.wkt_grammar.specs.declared.table.Argument.{Argument};
 ghost use Rattle.wkt_grammar.specs.declared.table.Argument.TheVariants as arguments;
 ghost use Rattle.wkt_grammar.specs.Editions.{without_added};
 ghost use Rattle.wkt_grammar.specs.Words.{IsKeyword, keyword_of};
+ghost use Rattle.wkt_grammar.specs.Names.{slot_name};
+ghost use Rattle.wkt_grammar.specs.RowNames.{names_in};
 ghost use Rattle.wkt_grammar.specs.Ensembles.{needs_ellipsoid, takes_ellipsoid};
 ghost use Rattle.wkt_tree.specs.Tree.{Tok};
 ghost use Rattle.wkt_tree.specs.Tokens.{Cut};
@@ -20,6 +22,11 @@ ghost use Rattle.wkt_grammar.specs.Rows.{Admitted, Fits, enters, row_in, row_of}
 /// A word with a meaning as a keyword is, in any letter case, a spelling with this meaning, and of no other keyword.
 pub fn keywords()
     ensures { (bytes : List ℕ) (k : Keyword) → (keyword_of bytes ≡ Some k) ↔ IsKeyword k bytes }
+{}
+
+/// The slots of each row have these names, which `Missing` prints.
+pub fn names_of_rows()
+    ensures { (e : Edition) (n : Node) → map (λ (s : Slot). slot_name s.name) (row_of e n) ≡ names_in e n }
 {}
 
 /// Each slot of a row that takes a keyword gives it the same row.

@@ -3,6 +3,7 @@ use Rattle.std.proofs.Common.{◌≡◌, ℕ, suc, cond, ◌+◌, ◌-◌, ◌<�
 use Rattle.std.specs.Prelude.{count_by, nat_le}
 use Rattle.std.proofs.lemmas.Grind.{common_steps}
 use Rattle.std.proofs.lemmas.List.Sums.{sum_by-cons}
+use Rattle.std.proofs.lemmas.Bool.{cases_Bool}
 use Rattle.wkt_tree.specs.Tokens.{is_mark}
 use Rattle.wkt_texts.specs.Texts.{is_opening, is_closing, outside}
 use Rattle.wkt_texts.specs.Counting.{text_len}
@@ -21,10 +22,6 @@ pub record Stands (count : ℕ) (b : ℕ) : Type 0 where
   pub opened : count_by is_opening (outside false (b ∷ [])) ≡ 0
   pub closed : count_by is_closing (outside false (b ∷ [])) ≡ 1
   pub last : count ≤ 1
-
-test : (t : Bool) → (t ≡ true) ⊎ (t ≡ false)
-test true = inl refl
-test false = inr refl
 
 at_mark : (count : ℕ) (q : Bool) (b : ℕ) → is_mark b ≡ true → Goes count q b count (not q) 0 0
 at_mark count q b h = record {
@@ -101,17 +98,17 @@ pub record Passes (count : ℕ) (quoted : Bool) (b : ℕ) : Type 0 where
   pub goes : Goes count quoted b count' quoted' opens closes
 
 pub does : (count : ℕ) (quoted : Bool) (b : ℕ) → Passes count quoted b ⊎ ((quoted ≡ false) × Stands count b)
-does count true b = elim (test (is_mark b)) [
+does count true b = elim (cases_Bool (is_mark b)) [
   | inl h ↦ inl (record { count' = _; quoted' = _; opens = _; closes = _; goes = at_mark count true b h })
   | inr h ↦ inl (record { count' = _; quoted' = _; opens = _; closes = _; goes = inside_marks count b h })
 ]
-does count false b = elim (test (is_mark b)) [
+does count false b = elim (cases_Bool (is_mark b)) [
   | inl h ↦ inl (record { count' = _; quoted' = _; opens = _; closes = _; goes = at_mark count false b h })
-  | inr h ↦ elim (test (is_opening b)) [
+  | inr h ↦ elim (cases_Bool (is_opening b)) [
     | inl o ↦ inl (record { count' = _; quoted' = _; opens = _; closes = _; goes = at_opening count b h o (one_way b o) })
-    | inr o ↦ elim (test (is_closing b)) [
+    | inr o ↦ elim (cases_Bool (is_closing b)) [
       | inr c ↦ inl (record { count' = _; quoted' = _; opens = _; closes = _; goes = at_other count b h o c })
-      | inl c ↦ elim (test (nat_le count 1)) [
+      | inl c ↦ elim (cases_Bool (nat_le count 1)) [
         | inl t ↦ inr (refl, at_last count b h o c t)
         | inr t ↦ inl (record { count' = _; quoted' = _; opens = _; closes = _; goes = at_closing count b h o c t })
       ]

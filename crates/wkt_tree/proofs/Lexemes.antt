@@ -1,5 +1,5 @@
 -- Where a token ends.
-use Rattle.std.proofs.Common.{◌≡◌, ℕ, zero, suc, ◌+◌, ◌<◌, ◌≤◌, Bool, true, false, cond, eqb, List, [], ◌∷◌, ◌++◌, length, take, drop, get_or, refl, sym, ap, ◌∙◌, subst, append_assoc, arith, inl, inr}
+use Rattle.std.proofs.Common.{◌≡◌, ℕ, ◌+◌, ◌<◌, ◌≤◌, Bool, true, false, cond, eqb, List, [], ◌∷◌, ◌++◌, length, take, drop, get_or, refl, sym, ap, ◌∙◌, subst, append_assoc, arith, inl, inr}
 use Rattle.std.specs.Prelude.{◌⊎◌}
 use Rattle.std.specs.List.{AllPass, prefix_len, flat_map}
 use Rattle.std.proofs.Math.Numerals.{one-add}
@@ -82,38 +82,6 @@ no_mark (b ∷ c) (x ∷ e) r h s =
       ]
     ]
 
--- bytes begin with a quoted text and its closing mark in at most one way
-pub one_mark : (c e r s : List ℕ) → body c ++ (34 ∷ r) ≡ body e ++ (34 ∷ s) → Stops is_mark r → Stops is_mark s → (body c ≡ body e) × (r ≡ s)
-one_mark [] [] r s h u v = (refl, cc)
-one_mark [] (x ∷ e) r s h u v =
-    elim (by_mark x) [
-      | inl m ↦ let g = h ∙ ap (λ (l : List ℕ). l ++ (34 ∷ s)) (body-mark x e m.1) in absurd (no_stop r (body e ++ (34 ∷ s)) (cc) u)
-      | inr n ↦ let g = h ∙ ap (λ (l : List ℕ). l ++ (34 ∷ s)) (body-plain x e n.1) in absurd (n.0 cc)
-    ]
-one_mark (b ∷ c) [] r s h u v =
-    elim (by_mark b) [
-      | inl m ↦ let g = sym (ap (λ (l : List ℕ). l ++ (34 ∷ r)) (body-mark b c m.1)) ∙ h in absurd (no_stop s (body c ++ (34 ∷ r)) (cc) v)
-      | inr n ↦ let g = sym (ap (λ (l : List ℕ). l ++ (34 ∷ r)) (body-plain b c n.1)) ∙ h in absurd (n.0 cc)
-    ]
-one_mark (b ∷ c) (x ∷ e) r s h u v =
-    elim (by_mark b) [
-      | inl m ↦ elim (by_mark x) [
-        | inl k ↦
-            let g = sym (ap (λ (l : List ℕ). l ++ (34 ∷ r)) (body-mark b c m.1)) ∙ (h ∙ ap (λ (l : List ℕ). l ++ (34 ∷ s)) (body-mark x e k.1)) in
-            let i = one_mark c e r s (cc) u v in
-            (body-mark b c m.1 ∙ (ap (λ (l : List ℕ). 34 ∷ 34 ∷ l) i.0 ∙ sym (body-mark x e k.1)), i.1)
-        | inr n ↦ let g = sym (ap (λ (l : List ℕ). l ++ (34 ∷ r)) (body-mark b c m.1)) ∙ (h ∙ ap (λ (l : List ℕ). l ++ (34 ∷ s)) (body-plain x e n.1)) in absurd (n.0 cc)
-      ]
-      | inr m ↦ elim (by_mark x) [
-        | inl k ↦ let g = sym (ap (λ (l : List ℕ). l ++ (34 ∷ r)) (body-plain b c m.1)) ∙ (h ∙ ap (λ (l : List ℕ). l ++ (34 ∷ s)) (body-mark x e k.1)) in absurd (m.0 cc)
-        | inr n ↦
-            let g = sym (ap (λ (l : List ℕ). l ++ (34 ∷ r)) (body-plain b c m.1)) ∙ (h ∙ ap (λ (l : List ℕ). l ++ (34 ∷ s)) (body-plain x e n.1)) in
-            let i = one_mark c e r s (cc) u v in
-            let same : b ≡ x = cc in
-            (body-plain b c m.1 ∙ (ap (λ (l : List ℕ). b ∷ l) i.0 ∙ (ap (λ (y : ℕ). y ∷ body e) same ∙ sym (body-plain x e n.1))), i.1)
-      ]
-    ]
-
 -- ---- the loop that looks for the closing mark
 
 pub record Inside (bytes : List ℕ) (i : ℕ) : Type 0 where
@@ -143,12 +111,6 @@ mark_more bytes i h e f w =
           ∙ (ap (λ (x : ℕ). (body w.content ++ 34 ∷ []) ++ x ∷ []) f
           ∙ (append_assoc (body w.content) (34 ∷ []) (34 ∷ []) ∙ sym (body_push w.content 34))));
     }
-
-pub stops_at : (p : ℕ → Bool) (bytes : List ℕ) (i : ℕ) → (i < length bytes → p (get_or bytes i 0) ≡ false) → Stops p (drop i bytes)
-stops_at p [] zero h = tt
-stops_at p [] (suc i) h = tt
-stops_at p (b ∷ bytes) zero h = h (omega arith)
-stops_at p (b ∷ bytes) (suc i) h = stops_at p bytes i (λ lt. h (omega arith))
 
 pub none_closes : (bytes : List ℕ) (i : ℕ) → length bytes ≤ i → Inside bytes i → IsUnclosed bytes
 none_closes bytes i h w content rest e s = no_mark w.content content rest (sym w.is ∙ (take_all i bytes h ∙ e)) s

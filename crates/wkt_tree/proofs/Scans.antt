@@ -56,9 +56,6 @@ pub record Scanned (text : List ℕ) (place : ℕ) (phase : Phase) (s : List Del
   pub within : place ≤ length text
   pub runs : run 16 start tokens ≡ Some (state phase s)
 
-pub scanned_none : (text : List ℕ) → Scanned text 0 Begin []
-scanned_none text = record { tokens = []; front = (refl, refl); within = omega arith; runs = refl }
-
 pub scanned_more : (text : List ℕ) (place : ℕ) (phase : Phase) (s : List Delimiter) (t : Tok) (rest : List ℕ) (phase' : Phase) (s' : List Delimiter)
     → Scanned text place phase s → First place (drop place text) t rest → step_at 16 phase s t.kind ≡ Some (state phase' s') → Scanned text (end_of t) phase' s'
 scanned_more text place phase s t rest phase' s' h f e =

@@ -114,9 +114,6 @@ unreadable_no place bytes (After at) ts u c = u
 abbrev pub Whole : ℕ → List ℕ → Type 0
 Whole place bytes = Cut place bytes (cut place bytes)
 
-pub whole_of : (place : ℕ) (bytes : List ℕ) (ts : List Tok) → Cut place bytes ts → Whole place bytes
-whole_of place bytes ts c = subst (λ l. Cut place bytes l) (sym (cut_of place bytes ts c)) c
-
 -- if the first token of the bytes is t, their tokens are t and those of the rest
 pub lexed_head : (place : ℕ) (bytes : List ℕ) (t : Tok) (rest : List ℕ) (ts : List Tok) → Lexed place bytes t rest → Cut place bytes ts → (us : List Tok) × (ts ≡ t ∷ us) × Cut (end_of t) rest us
 lexed_head place bytes t rest [] f c =

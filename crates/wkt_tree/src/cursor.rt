@@ -1,6 +1,6 @@
 //! A text that has passed the scan, and its tokens in order.
 
-ghost use Rattle.std.specs.Prelude.{◌≡◌, List, ℕ, [], All, drop, length, slice_get, Err, IsOk, IfSome, IfOk, IfErr};
+ghost use Rattle.std.specs.Prelude.{◌≡◌, List, ℕ, [], All, drop, slice_get, Err, IsOk, IfSome, IfOk, IfErr};
 ghost use Rattle.std.specs.Option.{option_map};
 ghost use Rattle.wkt_tree.specs.declared.fault.TextFault.{TextFault};
 ghost use Rattle.wkt_tree.specs.Tree.{Tok};

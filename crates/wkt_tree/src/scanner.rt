@@ -1,6 +1,6 @@
 //! Tests that a text is written with the tokens of one tree.
 
-ghost use Rattle.std.specs.Prelude.{◌≡◌, ◌≤◌, length, List, OnOk, IfErr};
+ghost use Rattle.std.specs.Prelude.{◌≤◌, length, List, OnOk, IfErr};
 ghost use Rattle.wkt_tree.specs.Tree.{Tok, IsTree};
 ghost use Rattle.wkt_tree.specs.Tokens.{Cut};
 ghost use Rattle.wkt_tree.specs.Faults.{FirstFault, IsOutline, TokenFault};

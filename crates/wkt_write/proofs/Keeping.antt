@@ -1,5 +1,5 @@
 -- Pieces that are kept or left out as a whole.
-use Rattle.std.proofs.Common.{◌≡◌, ℕ, zero, suc, ◌+◌, ◌-◌, ◌<◌, ◌≤◌, Bool, true, false, cond, List, [], ◌∷◌, ◌++◌, length, take, drop, get_or, Some, refl, sym, ap, ◌∙◌, subst, append_assoc, append-nil, take-add, arith, inl, inr}
+use Rattle.std.proofs.Common.{◌≡◌, ℕ, zero, suc, ◌+◌, ◌-◌, ◌<◌, ◌≤◌, Bool, true, false, cond, List, [], ◌∷◌, ◌++◌, length, take, drop, get_or, Some, refl, sym, ap, ◌∙◌, subst, append_assoc, append-nil, take-add, arith, inr}
 use Rattle.std.specs.Prelude.{position, if◌then◌else◌}
 use Rattle.std.specs.List.{AllPass, prefix_len}
 use Rattle.std.proofs.lemmas.List.{take-append-drop, length-drop, drop-drop, drop_all}
@@ -122,12 +122,6 @@ go_before [] ys c a s h = h
 go_before (x ∷ xs) ys c a s h =
     let others = All-tail (λ z. is_blank z ≡ true) x xs a in
     leave x (All-head (λ z. is_blank z ≡ true) x xs a) (shuts_after xs ys others s) (go_before xs ys c others s h)
-
-pub shuts_at : (bytes : List ℕ) (n : ℕ) → (n < length bytes → is_delimiter (get_or bytes n 0) ≡ true) → Shuts (drop n bytes)
-shuts_at [] zero h = tt
-shuts_at [] (suc n) h = tt
-shuts_at (b ∷ bytes) zero h = inl (h (omega arith))
-shuts_at (b ∷ bytes) (suc n) h = shuts_at bytes n (λ lt. h (omega arith))
 
 blanks_go : (s : Bool) (xs ys c : List ℕ) → AllPass is_blank xs → (s ≡ false → Shuts ys) → Condenses (before s) ys c → Condenses (before s) (xs ++ ys) c
 blanks_go true xs ys c a s h = go_behind xs ys c a h

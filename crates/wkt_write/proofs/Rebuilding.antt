@@ -6,7 +6,7 @@ use Rattle.wkt_tree.specs.declared.token.TokenKind.TheVariants.{Word, Quoted, Nu
 use Rattle.wkt_tree.specs.Tree.{Piece, Tok, tok, Item, Items, text, number, word, node, last, more, tokens, all_tokens, Within, AllWithin, IsTree}
 use Rattle.wkt_tree.specs.Tokens.{Cut}
 use Rattle.wkt_tree.proofs.OneTree.{one_tree}
-use Rattle.wkt_grammar.specs.Bare.{Bare, Bares, bare, all_bare}
+use Rattle.wkt_grammar.specs.Bare.{Bares, bare, all_bare}
 use Rattle.wkt_grammar.specs.Bare as grammar
 use Rattle.wkt_write.specs.Condensed.{delimiter, IsCondensed}
 use Rattle.wkt_write.specs.CondensedLaw.{IsWrittenAs, IsReadAs}

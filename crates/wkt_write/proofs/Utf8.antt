@@ -1,5 +1,5 @@
 -- The text of a tree is UTF-8.
-use Rattle.std.proofs.Common.{◌≡◌, ℕ, zero, suc, ◌<◌, ◌≤◌, Bool, true, false, ◌&&◌, List, [], ◌∷◌, ◌++◌, length, get_or, refl, sym, ap, ◌∙◌, subst, ⊎_elim, inl, inr, arith, append-nil, IsUtf8}
+use Rattle.std.proofs.Common.{◌≡◌, ℕ, zero, suc, ◌<◌, ◌≤◌, Bool, true, false, ◌&&◌, List, [], ◌∷◌, ◌++◌, length, get_or, refl, sym, ap, ◌∙◌, subst, ⊎_elim, arith, append-nil, IsUtf8}
 use Rattle.std.specs.Prelude.{◌⊎◌}
 use Rattle.std.specs.List.{AllPass, flat_map}
 use Rattle.std.specs.Str.{IsAscii}
@@ -7,6 +7,7 @@ use lib.Utf8.{scalars, scalar, encodes, encode}
 use Rattle.std.proofs.lemmas.List.Concat.{flat_map-append}
 use Rattle.std.proofs.lemmas.List.Elements.{All-head, All-tail}
 use Rattle.std.proofs.lemmas.Str.{IsUtf8-nil, IsUtf8-append, IsUtf8-from_ascii, encode_ascii, inside_one}
+use Rattle.std.proofs.lemmas.Bool.{cases_lt}
 use Rattle.wkt_tree.specs.declared.token.TokenKind.TheVariants.{Word, Number}
 use Rattle.wkt_tree.specs.Bytes.{is_blank, is_word_byte, is_number_byte}
 use Rattle.wkt_tree.specs.Tokens.{doubled, quoted}
@@ -17,12 +18,6 @@ use Rattle.wkt_write.specs.WellFormed.{IsToken, WellFormed, AllWellFormed}
 use Rattle.wkt_write.specs.declared.layout.Layout as layouts
 use Rattle.wkt_write.specs.Layout.{before, inner, laid, laid_all, laid_behind}
 use Rattle.wkt_write.proofs.Placing.{before_blank}
-
-below_or : (a b : ℕ) → (a < b) ⊎ (b ≤ a)
-below_or zero zero = inr (omega arith)
-below_or zero (suc b) = inl (omega arith)
-below_or (suc a) zero = inr (omega arith)
-below_or (suc a) (suc b) = ⊎_elim (λ l. inl (omega (arith, l))) (λ g. inr (omega (arith, g))) (below_or a b)
 
 one_ascii : (b : ℕ) → b < 128 → IsAscii (b ∷ [])
 one_ascii b h zero = h
@@ -61,7 +56,7 @@ doubled_char c s = ⊎_elim
     (λ n. subst IsUtf8 (sym (ap (λ (l : List ℕ). l ++ []) n.1)) (ascii_one c small))
     (by_mark c)))
     (λ large. rw (no_mark_inside c large) (char_utf8 c s))
-    (below_or c 128)
+    (cases_lt c 128)
 
 doubled_chars : (cs : List ℕ) → scalars cs ≡ true → IsUtf8 (flat_map doubled (encodes cs))
 doubled_chars [] s = IsUtf8-nil

@@ -1,6 +1,6 @@
 //! A node's brackets, and its arguments after the first.
 
-ghost use Rattle.std.specs.Prelude.{◌≡◌, ◌++◌, ◌∷◌, [], List, ℕ, map, OnOk, IfOk};
+ghost use Rattle.std.specs.Prelude.{◌≡◌, ◌++◌, ◌∷◌, [], map, OnOk, IfOk};
 ghost use Rattle.wkt_grammar.specs.Words.{spelling};
 ghost use Rattle.wkt_grammar.specs.Runs.{listed};
 ghost use Rattle.wkt_grammar.specs.Trees.{one, maybe};

@@ -1,6 +1,6 @@
 //! The layout of nodes on lines.
 
-ghost use Rattle.std.specs.Prelude.{◌≡◌, ℕ, ◌*◌, ◌++◌, ◌∷◌, [], List, replicate, OnOk, IfOk};
+ghost use Rattle.std.specs.Prelude.{◌≡◌, ◌*◌, ◌++◌, ◌∷◌, [], replicate, OnOk, IfOk};
 ghost use Rattle.wkt_write.specs.Layout.{before, inner};
 
 use std::alloc::AllocError;

@@ -33,21 +33,21 @@ fn fault_of(first: usize, texts: &[FileText], refused: &Refused) -> Option<Impor
 // The explanation of the refused text, if requested.
 fn note_at(
     alloc: Global,
-    order: &ImportOptions<'_>,
+    options: &ImportOptions<'_>,
     files: &[Vec<u8>],
     cuts: &[FileCut<'_>],
     refused: &Refused,
 ) -> Result<Vec<u8>, AllocError>
-    ensures note { IfOk result (λ note. note.items ≡ if_explained order.now (note_at order.now (bytes_of files.now) (map text_at cuts.now) refused.now.at refused.now.problem)) }
-    ensures memory { IfErr result (λ e. order.now.explain ≡ true) }
+    ensures note { IfOk result (λ note. note.items ≡ if_explained options.now (note_at options.now (bytes_of files.now) (map text_at cuts.now) refused.now.at refused.now.problem)) }
+    ensures memory { IfErr result (λ e. options.now.explain ≡ true) }
 {
-    if !order.explain {
+    if !options.explain {
         return Ok(Vec::new(alloc));
     }
     match cuts.get(refused.at) {
         Some(cut) => {
             let told = TextAction::Refused(refused.problem);
-            match note_of(alloc, order.names, files, cut, told) {
+            match note_of(alloc, options.names, files, cut, told) {
                 Ok(note) => Ok(note),
                 Err(_) => Err(AllocError),
             }
@@ -60,19 +60,19 @@ fn note_at(
 pub fn refused_here(
     alloc: Global,
     first: usize,
-    order: &ImportOptions<'_>,
+    options: &ImportOptions<'_>,
     files: &[Vec<u8>],
     cuts: &[FileCut<'_>],
     texts: &[FileText],
     refused: &Refused,
 ) -> Result<Unimported, AllocError>
-    ensures refused { IfOk result (λ u. IsRefusedAt order.now first (bytes_of files.now) (map text_at cuts.now) texts.now refused.now.at refused.now.problem u) }
-    ensures memory { IfErr result (λ e. TakesMemory order.now first (slice_get texts.now refused.now.at)) }
+    ensures refused { IfOk result (λ u. IsRefusedAt options.now first (bytes_of files.now) (map text_at cuts.now) texts.now refused.now.at refused.now.problem u) }
+    ensures memory { IfErr result (λ e. TakesMemory options.now first (slice_get texts.now refused.now.at)) }
 {
     let Some(fault) = fault_of(first, texts, refused) else {
         return Err(AllocError);
     };
-    match note_at(alloc, order, files, cuts, refused) {
+    match note_at(alloc, options, files, cuts, refused) {
         Ok(notes) => Ok(Unimported { fault, notes }),
         Err(_) => Err(AllocError),
     }
@@ -81,30 +81,30 @@ pub fn refused_here(
 // The explanations of all refused texts, if requested.
 fn all_notes(
     alloc: Global,
-    order: &ImportOptions<'_>,
+    options: &ImportOptions<'_>,
     files: &[Vec<u8>],
     cuts: &[FileCut<'_>],
     told: &[PackedAction],
 ) -> Result<Vec<u8>, AllocError>
-    ensures { IfOk result (λ notes. notes.items ≡ if_explained order.now (all_notes order.now (bytes_of files.now) (map text_at cuts.now) told.now)) }
+    ensures { IfOk result (λ notes. notes.items ≡ if_explained options.now (all_notes options.now (bytes_of files.now) (map text_at cuts.now) told.now)) }
 {
-    if !order.explain {
+    if !options.explain {
         return Ok(Vec::new(alloc));
     }
-    notes_of(alloc, order.names, files, cuts, told)
+    notes_of(alloc, options.names, files, cuts, told)
 }
 
 /// The first text that was passed over, with the explanations of all.
 pub fn passed_over(
     alloc: Global,
     first: usize,
-    order: &ImportOptions<'_>,
+    options: &ImportOptions<'_>,
     files: &[Vec<u8>],
     cuts: &[FileCut<'_>],
     texts: &[FileText],
     told: &[PackedAction],
 ) -> Result<Option<Unimported>, AllocError>
-    ensures { IfOk result (IsPassed order.now first (bytes_of files.now) (map text_at cuts.now) texts.now told.now) }
+    ensures { IfOk result (IsPassed options.now first (bytes_of files.now) (map text_at cuts.now) texts.now told.now) }
 {
     let Some(refused) = first_refused(told) else {
         return Ok(None);
@@ -112,7 +112,7 @@ pub fn passed_over(
     let Some(fault) = fault_of(first, texts, &refused) else {
         return Err(AllocError);
     };
-    match all_notes(alloc, order, files, cuts, told) {
+    match all_notes(alloc, options, files, cuts, told) {
         Ok(notes) => Ok(Some(Unimported { fault, notes })),
         Err(_) => Err(AllocError),
     }

@@ -28,14 +28,14 @@ pub fn run_import<T: Keep, F: Source, K: Sink>(
     alloc: Global,
     store: &mut T,
     files: &mut [F],
-    order: &ImportOptions<'_>,
+    options: &ImportOptions<'_>,
     sink: &mut K,
 ) -> Result<(), Unimported>
     ensures same { T.same store.old store.new }
     ensures imported { OnOk result (IsImported (kept_in (T.around store.old store.new) (K.state sink.old) (K.state sink.new)) (T.admission store.old)
-        order.now (T.next store.old) (map F.state files.old) (map F.state files.new)) }
+        options.now (T.next store.old) (map F.state files.old) (map F.state files.new)) }
     ensures fault { IfErr result (IsUnimported (kept_in (T.around store.old store.new) (K.state sink.old) (K.state sink.new)) (T.admission store.old)
-        order.now (T.next store.old) (map F.state files.old) (map F.state files.new)) }
+        options.now (T.next store.old) (map F.state files.old) (map F.state files.new)) }
 {
     let next = store.next();
     let register = match store.load(alloc) {
@@ -46,7 +46,7 @@ pub fn run_import<T: Keep, F: Source, K: Sink>(
         register,
         lines,
         passed,
-    } = match make_ready(alloc, store, register, next, order, files) {
+    } = match make_ready(alloc, store, register, next, options, files) {
         Ok(ready) => ready,
         Err(why) => return Err(why),
     };
@@ -64,14 +64,14 @@ pub fn try_import<T: HasRoom, F: Source, K: Sink>(
     alloc: Global,
     store: &mut T,
     files: &mut [F],
-    order: &ImportOptions<'_>,
+    options: &ImportOptions<'_>,
     sink: &mut K,
 ) -> Result<(), Unimported>
     ensures same { T.same store.old store.new }
     ensures imported { OnOk result (IsImported (tried_in (T.around store.old store.new) (T.room store.old store.new) (K.state sink.old) (K.state sink.new)) (T.admission store.old)
-        order.now (T.next store.old) (map F.state files.old) (map F.state files.new)) }
+        options.now (T.next store.old) (map F.state files.old) (map F.state files.new)) }
     ensures fault { IfErr result (IsUnimported (tried_in (T.around store.old store.new) (T.room store.old store.new) (K.state sink.old) (K.state sink.new)) (T.admission store.old)
-        order.now (T.next store.old) (map F.state files.old) (map F.state files.new)) }
+        options.now (T.next store.old) (map F.state files.old) (map F.state files.new)) }
 {
     let next = store.next();
     let register = match store.load(alloc) {
@@ -82,7 +82,7 @@ pub fn try_import<T: HasRoom, F: Source, K: Sink>(
         register,
         lines,
         passed,
-    } = match make_ready(alloc, store, register, next, order, files) {
+    } = match make_ready(alloc, store, register, next, options, files) {
         Ok(ready) => ready,
         Err(why) => return Err(why),
     };

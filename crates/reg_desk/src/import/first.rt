@@ -1,6 +1,6 @@
 //! What an import tells where memory runs out while it reads its texts.
 
-ghost use Rattle.std.specs.Prelude.{◌≡◌, List, [], ◌∷◌, IfSome, IfNone};
+ghost use Rattle.std.specs.Prelude.{List, [], ◌∷◌, IfSome, IfNone};
 ghost use Rattle.wkt_tree.specs.Tree.{Piece};
 ghost use Rattle.wkt_crs.specs.Faults.{IsGrammatical};
 ghost use Rattle.wkt_texts.specs.Texts.{piece_of, IsCutInto};
@@ -88,16 +88,16 @@ fn fault_in(alloc: Global, first: usize, cut: &FileCut<'_>) -> Option<ImportFaul
 fn first_fault(
     alloc: Global,
     first: usize,
-    order: &ImportOptions<'_>,
+    options: &ImportOptions<'_>,
     files: &[Vec<u8>],
 ) -> Option<ImportFault>
-    ensures some { IfSome result (EndsAtFirst order.now first (bytes_of files.now)) }
-    ensures none { IfNone result (MayHideFirst order.now first (bytes_of files.now)) }
+    ensures some { IfSome result (EndsAtFirst options.now first (bytes_of files.now)) }
+    ensures none { IfNone result (MayHideFirst options.now first (bytes_of files.now)) }
 {
-    if order.keep_going {
+    if options.keep_going {
         return None;
     }
-    if order.explain {
+    if options.explain {
         return None;
     }
     let Some(cut) = first_text(files) else {
@@ -113,18 +113,18 @@ fn first_fault(
 pub fn run_out(
     alloc: Global,
     first: usize,
-    order: &ImportOptions<'_>,
+    options: &ImportOptions<'_>,
     files: &[Vec<u8>],
 ) -> Unimported
-    ensures { (x : Content) → IsContent x → EndsEarly order.now first x (bytes_of files.now) result }
+    ensures { (x : Content) → IsContent x → EndsEarly options.now first x (bytes_of files.now) result }
 {
-    if order.note.len() > Note::MAX {
+    if options.note.len() > Note::MAX {
         return Unimported::plain(
             alloc,
             CliFault::Refused(Refusal::Office(OfficeFault::NoteTooLong)),
         );
     }
-    match first_fault(alloc, first, order, files) {
+    match first_fault(alloc, first, options, files) {
         Some(fault) => Unimported {
             fault,
             notes: Vec::new(alloc),

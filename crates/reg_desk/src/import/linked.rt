@@ -30,14 +30,14 @@ pub enum LinkRefusal {
 pub fn import_linked(
     alloc: Global,
     register: Register,
-    order: &ImportOptions<'_>,
+    options: &ImportOptions<'_>,
     texts: &[FileText],
 ) -> Result<Linked, LinkRefusal>
-    ensures ok { IfOk result (λ l. ImportsLinked order.now register (readings texts.now) l.register l.told.items l.links.items) }
-    ensures fault { IfErr result (IsUnlinked order.now register (readings texts.now)) }
+    ensures ok { IfOk result (λ l. ImportsLinked options.now register (readings texts.now) l.register l.told.items l.links.items) }
+    ensures fault { IfErr result (IsUnlinked options.now register (readings texts.now)) }
 {
     let _content = register.seen();
-    if let Some(refusal) = refused_at_once(order.note, order.keep_going, texts) {
+    if let Some(refusal) = refused_at_once(options.note, options.keep_going, texts) {
         return Err(LinkRefusal::Import(refusal));
     }
     let Ok(before) = links(alloc, &register) else {
@@ -46,17 +46,17 @@ pub fn import_linked(
     let Imported { register, told } = match import_texts(
         alloc,
         register,
-        order.replica,
-        order.note,
-        order.differs,
-        order.keep_going,
+        options.replica,
+        options.note,
+        options.differs,
+        options.keep_going,
         texts,
     ) {
         Ok(imported) => imported,
         Err(refusal) => return Err(LinkRefusal::Import(refusal)),
     };
-    let mut office = Office::new(order.replica, register);
-    let links = match pass_on(alloc, &mut office, &before, order.note) {
+    let mut office = Office::new(options.replica, register);
+    let links = match pass_on(alloc, &mut office, &before, options.note) {
         Ok(Passed { links, ids: _ }) => links,
         Err(fault) => return Err(LinkRefusal::Office(fault)),
     };

@@ -1,6 +1,6 @@
 //! Explanations of refused texts.
 
-ghost use Rattle.std.specs.Prelude.{◌≡◌, ◌++◌, [], map, IfOk, OnOk};
+ghost use Rattle.std.specs.Prelude.{◌≡◌, [], map, IfOk};
 ghost use Rattle.std.specs.String.{string_bytes};
 ghost use Rattle.reg_desk.specs.ImportFiles.{bytes_of};
 ghost use Rattle.reg_desk.specs.ImportTexts.{text_at};

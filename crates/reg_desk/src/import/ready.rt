@@ -1,6 +1,6 @@
 //! The result of an import, before anything is written.
 
-ghost use Rattle.std.specs.Prelude.{◌≡◌, map, IfOk, IfErr};
+ghost use Rattle.std.specs.Prelude.{map, IfOk, IfErr};
 ghost use Rattle.reg_op.specs.Contents.{Content};
 ghost use Rattle.reg_import.specs.Readings.{readings};
 ghost use Rattle.reg_desk.specs.ImportLinks.{IsUnlinked};
@@ -35,13 +35,13 @@ pub struct Ready {
 fn refusal_of(
     alloc: Global,
     first: usize,
-    order: &ImportOptions<'_>,
+    options: &ImportOptions<'_>,
     files: &[Vec<u8>],
     cuts: &[FileCut<'_>],
     texts: &[FileText],
     refusal: ImportRefusal,
 ) -> Unimported
-    ensures { IsRefusedBy order.now first (bytes_of files.now) (map text_at cuts.now) texts.now refusal result }
+    ensures { IsRefusedBy options.now first (bytes_of files.now) (map text_at cuts.now) texts.now refusal result }
 {
     match refusal {
         ImportRefusal::NoteTooLong => {
@@ -59,7 +59,7 @@ fn refusal_of(
         ImportRefusal::Memory => Unimported::plain(alloc, CliFault::Memory),
         ImportRefusal::Refused { at, problem } => {
             let refused = Refused { at, problem };
-            match refused_here(alloc, first, order, files, cuts, texts, &refused) {
+            match refused_here(alloc, first, options, files, cuts, texts, &refused) {
                 Ok(why) => why,
                 Err(_) => Unimported::plain(alloc, CliFault::Memory),
             }
@@ -71,18 +71,18 @@ fn refusal_of(
 fn unlinked(
     alloc: Global,
     first: usize,
-    order: &ImportOptions<'_>,
+    options: &ImportOptions<'_>,
     files: &[Vec<u8>],
     cuts: &[FileCut<'_>],
     texts: &[FileText],
     refusal: LinkRefusal,
 ) -> Unimported
-    ensures { (x : Content) → IsUnlinked order.now x (readings texts.now) refusal
-        → IsUnmadeOf order.now first x (bytes_of files.now) (map text_at cuts.now) texts.now result }
+    ensures { (x : Content) → IsUnlinked options.now x (readings texts.now) refusal
+        → IsUnmadeOf options.now first x (bytes_of files.now) (map text_at cuts.now) texts.now result }
 {
     match refusal {
         LinkRefusal::Import(refusal) => refusal_of(
-            alloc, first, order, files, cuts, texts, refusal,
+            alloc, first, options, files, cuts, texts, refusal,
         ),
         LinkRefusal::Office(fault) => Unimported::plain(alloc, CliFault::of_office(fault)),
     }
@@ -91,16 +91,16 @@ fn unlinked(
 // The lines of an import.
 fn lines_of(
     alloc: Global,
-    order: &ImportOptions<'_>,
+    options: &ImportOptions<'_>,
     texts: &[FileText],
     linked: &Linked,
 ) -> Result<Vec<u8>, AllocError>
-    ensures { IfOk result (λ lines. AreLines order.now linked.now.register.ops texts.now linked.now.told.items linked.now.links.items lines.items) }
+    ensures { IfOk result (λ lines. AreLines options.now linked.now.register.ops texts.now linked.now.told.items linked.now.links.items lines.items) }
 {
     let listing = Listing {
-        names: order.names,
-        changes: order.changes,
-        gone: order.gone,
+        names: options.names,
+        changes: options.changes,
+        gone: options.gone,
     };
     let rows = old_rows(alloc, &linked.register, &linked.links)?;
     let lines = lines_text(
@@ -119,22 +119,22 @@ fn made_of(
     alloc: Global,
     register: Register,
     first: usize,
-    order: &ImportOptions<'_>,
+    options: &ImportOptions<'_>,
     files: &[Vec<u8>],
     cuts: &[FileCut<'_>],
     texts: &[FileText],
 ) -> Result<Ready, Unimported>
-    ensures made { IfOk result (λ r. MakesOf order.now first register (bytes_of files.now) (map text_at cuts.now) texts.now r.register r.lines.items r.passed) }
-    ensures fault { IfErr result (IsUnmadeOf order.now first register (bytes_of files.now) (map text_at cuts.now) texts.now) }
+    ensures made { IfOk result (λ r. MakesOf options.now first register (bytes_of files.now) (map text_at cuts.now) texts.now r.register r.lines.items r.passed) }
+    ensures fault { IfErr result (IsUnmadeOf options.now first register (bytes_of files.now) (map text_at cuts.now) texts.now) }
 {
-    let linked = match import_linked(alloc, register, order, texts) {
+    let linked = match import_linked(alloc, register, options, texts) {
         Ok(linked) => linked,
-        Err(refusal) => return Err(unlinked(alloc, first, order, files, cuts, texts, refusal)),
+        Err(refusal) => return Err(unlinked(alloc, first, options, files, cuts, texts, refusal)),
     };
-    let Ok(passed) = passed_over(alloc, first, order, files, cuts, texts, &linked.told) else {
+    let Ok(passed) = passed_over(alloc, first, options, files, cuts, texts, &linked.told) else {
         return Err(Unimported::plain(alloc, CliFault::Memory));
     };
-    match lines_of(alloc, order, texts, &linked) {
+    match lines_of(alloc, options, texts, &linked) {
         Ok(lines) => Ok(Ready {
             register: linked.register,
             lines,
@@ -149,21 +149,21 @@ fn made(
     alloc: Global,
     register: Register,
     first: usize,
-    order: &ImportOptions<'_>,
+    options: &ImportOptions<'_>,
     files: &[Vec<u8>],
 ) -> Result<Ready, Unimported>
-    ensures made { IfOk result (λ r. Makes order.now first register (bytes_of files.now) r.register r.lines.items r.passed) }
-    ensures fault { IfErr result (IsUnmade order.now first register (bytes_of files.now)) }
+    ensures made { IfOk result (λ r. Makes options.now first register (bytes_of files.now) r.register r.lines.items r.passed) }
+    ensures fault { IfErr result (IsUnmade options.now first register (bytes_of files.now)) }
 {
     let _content = register.seen();
-    let Ok(given) = read_texts(alloc, order.keep_going, files) else {
-        return Err(run_out(alloc, first, order, files));
+    let Ok(given) = read_texts(alloc, options.keep_going, files) else {
+        return Err(run_out(alloc, first, options, files));
     };
     match made_of(
         alloc,
         register,
         first,
-        order,
+        options,
         files,
         &given.cuts,
         &given.texts,
@@ -180,12 +180,12 @@ pub fn make_ready<T: Store, F: Source>(
     store: &T,
     loaded: Register,
     first: usize,
-    order: &ImportOptions<'_>,
+    options: &ImportOptions<'_>,
     files: &mut [F],
 ) -> Result<Ready, Unimported>
-    ensures ready { (was : T) → T.same was store.now → IfOk result (λ r. IsReadyIn (T.admission was) order.now first loaded
+    ensures ready { (was : T) → T.same was store.now → IfOk result (λ r. IsReadyIn (T.admission was) options.now first loaded
         (map F.state files.old) (map F.state files.new) r.register r.lines.items r.passed) }
-    ensures fault { (was : T) → T.same was store.now → IfErr result (λ u. IsUnreadyIn (T.admission was) order.now first loaded
+    ensures fault { (was : T) → T.same was store.now → IfErr result (λ u. IsUnreadyIn (T.admission was) options.now first loaded
         (map F.state files.old) (map F.state files.new) u) }
 {
     let bytes = match read_files(alloc, first, files) {
@@ -196,7 +196,7 @@ pub fn make_ready<T: Store, F: Source>(
         Ok(register) => register,
         Err(fault) => return Err(Unimported::plain(alloc, fault)),
     };
-    match made(alloc, register, first, order, &bytes) {
+    match made(alloc, register, first, options, &bytes) {
         Ok(ready) => Ok(ready),
         Err(why) => Err(why),
     }

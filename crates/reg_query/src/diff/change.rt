@@ -1,8 +1,9 @@
 //! A row that only one of two registers has, and equality of rows.
 
 ghost use Rattle.std.specs.Prelude.{◌≡◌, ◌↔◌, IsTrue};
+ghost use Rattle.reg_report.specs.Rows.{row_cmp};
 ghost use Rattle.reg_report.specs.Seen.{row_seen};
-ghost use Rattle.reg_query.specs.Changes.{row_cmp, sign_text};
+ghost use Rattle.reg_query.specs.Changes.{sign_text};
 
 use reg_op::OpId;
 use reg_report::Row;

@@ -2,8 +2,9 @@
 
 ghost use Rattle.std.specs.Prelude.{◌≡◌, ◌++◌, ◌∷◌, [], map, IfOk, OnOk};
 ghost use Rattle.reg_op.specs.Set.{Ascends};
+ghost use Rattle.reg_report.specs.Rows.{row_cmp};
 ghost use Rattle.reg_report.specs.Seen.{row_seen};
-ghost use Rattle.reg_query.specs.Changes.{signed, row_cmp, AreChanges};
+ghost use Rattle.reg_query.specs.Changes.{signed, AreChanges};
 ghost use Rattle.reg_query.specs.ChangesSeen.{change_seen};
 ghost use Rattle.reg_query.specs.DiffWalk.{AddsUnlike};
 

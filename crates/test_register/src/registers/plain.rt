@@ -2,7 +2,7 @@
 
 mod lists;
 
-ghost use Rattle.std.specs.Prelude.{◌≡◌, ◌↔◌, ◌&&◌, ◌||◌, ◌≤◌, ◌++◌, [], ◌∷◌, List, vec_len, vec_capacity, true, not, filter, Ok, Err, OnOk, OnErr};
+ghost use Rattle.std.specs.Prelude.{◌≡◌, ◌↔◌, ◌&&◌, ◌||◌, ◌≤◌, [], vec_len, vec_capacity, true, not, filter, Ok, Err, OnOk, OnErr};
 ghost use Rattle.std.specs.List.{list_any};
 ghost use Rattle.std.specs.Ordering.{is_eq};
 ghost use Rattle.reg_op.specs.Set as set;

@@ -1,6 +1,6 @@
 //! The classes of bytes in a condensed text, and runs of bytes.
 
-ghost use Rattle.std.specs.Prelude.{◌≡◌, ◌≤◌, true, length, take, drop};
+ghost use Rattle.std.specs.Prelude.{◌≡◌, ◌≤◌, true, length, take};
 ghost use Rattle.std.specs.List.{prefix_len, AllPass};
 ghost use Rattle.wkt_tree.specs.Bytes.{is_blank};
 ghost use Rattle.wkt_write.specs.Condensed.{is_delimiter, Shuts};

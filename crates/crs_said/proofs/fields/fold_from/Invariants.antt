@@ -1,4 +1,4 @@
-use Rattle.std.proofs.Common.{◌≡◌, ◌≤◌, length}
+use Rattle.std.proofs.Common.{◌≡◌}
 use Rattle.crs_exact.specs.Names.{plain}
 use Rattle.crs_said.proofs.ChangedLemmas.{changed}
 use Rattle.crs_said.proofs.fields.fold_from.Given as goal

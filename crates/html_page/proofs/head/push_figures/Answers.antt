@@ -1,4 +1,4 @@
-use Rattle.html_text.proofs.JoinLemmas.{next}
+use Rattle.html_page.proofs.JoinLemmas.{next}
 use Rattle.html_page.proofs.head.push_figures.Goals as goal
 
 pub returns : goal.returns

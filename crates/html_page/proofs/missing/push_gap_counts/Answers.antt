@@ -1,4 +1,4 @@
-use Rattle.html_text.proofs.JoinLemmas.{next}
+use Rattle.html_page.proofs.JoinLemmas.{next}
 use Rattle.html_page.proofs.missing.push_gap_counts.Goals as goal
 
 pub returns : goal.returns

@@ -1,4 +1,4 @@
-use Rattle.std.proofs.Common.{◌≡◌, ◌∙◌, ◌++◌, ◌∷◌, [], Some, rules}
+use Rattle.std.proofs.Common.{◌≡◌, ◌++◌, ◌∷◌, [], Some, rules}
 use Rattle.csv.specs.Records.{fields_of}
 use Rattle.office_names.specs.Reading.{given, pair}
 use Rattle.office_names.proofs.ReadLemmas.{read_more}

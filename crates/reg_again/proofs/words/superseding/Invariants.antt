@@ -1,5 +1,5 @@
 use Rattle.std.proofs.Common.{◌≡◌, ◌++◌, drop}
-use Rattle.reg_keyed.specs.Keyed.{each_superseded}
+use Rattle.reg_commands.specs.Keyed.{each_superseded}
 use Rattle.reg_again.proofs.words.superseding.Given as goal
 
 -- the effects so far, and then those of the remaining entries, are all effects

@@ -1,6 +1,6 @@
 use Rattle.std.proofs.Common.{not, ap}
 use Rattle.reg_report.specs.Seen.{row_seen}
-use Rattle.reg_disorder.specs.Keys.{key_bytes}
+use Rattle.reg_report.specs.Keys.{key_bytes}
 use Rattle.reg_disorder.proofs.KeyLemmas.{withdrawn_is}
 use Rattle.reg_disorder.proofs.withdrawn.is_withdrawn.Goals as goal
 

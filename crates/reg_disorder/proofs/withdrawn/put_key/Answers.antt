@@ -1,7 +1,8 @@
 use Rattle.std.proofs.Common.{◌∙◌}
 use Rattle.std.specs.Ordering.{is_eq}
 use Rattle.reg_report.specs.Conflicts.{key_cmp}
-use Rattle.reg_disorder.specs.Keys.{key_bytes, has_key}
+use Rattle.reg_report.specs.Keys.{key_bytes}
+use Rattle.reg_disorder.specs.Keys.{has_key}
 use Rattle.reg_disorder.proofs.TextLemmas.{as_key, cond_or}
 use Rattle.reg_disorder.proofs.withdrawn.put_key.Goals as goal
 

@@ -1,5 +1,5 @@
 use Rattle.std.proofs.Common.{inr, sym, ◌∙◌}
-use Rattle.reg_disorder.specs.Keys.{key_bytes}
+use Rattle.reg_report.specs.Keys.{key_bytes}
 use Rattle.reg_disorder.proofs.withdrawn.put_row.Goals as goal
 
 pub returns : goal.returns

@@ -1,6 +1,4 @@
 use Rattle.std.proofs.Common.{◌∙◌}
-use Rattle.std.specs.Prelude.{IfOk}
-use Rattle.reg_op.specs.Contents.{Content}
 use Rattle.reg_from.proofs.OfficeLemmas.{all_listed}
 use Rattle.reg_from.proofs.theirs.from_register.Goals as goal
 

@@ -1,5 +1,3 @@
-use Rattle.std.proofs.Common.{List}
-use Rattle.reg_hidden.specs.declared.risen.Risen.{Risen}
 use Rattle.reg_hidden.proofs.RisenLemmas.{are_risen}
 use Rattle.reg_hidden.proofs.risen.offices_risen.Goals as goal
 

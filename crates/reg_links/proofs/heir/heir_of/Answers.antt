@@ -1,6 +1,6 @@
 use Rattle.std.proofs.Common.{sym, ◌∙◌}
 use Rattle.reg_report.specs.Seen.{row_seen}
-use Rattle.reg_settle.proofs.Ordered.{one_by_entry}
+use Rattle.reg_report.proofs.FoundLemmas.{one_row}
 use Rattle.reg_links.specs.Heirs.{rows_in}
 use Rattle.reg_links.proofs.Inheriting.{no_follow, none_follow}
 use Rattle.reg_links.proofs.heir.heir_of.Goals as goal
@@ -10,5 +10,5 @@ returns-in_default-clause-none c = no_follow c.args.register.now.ops c.args.entr
 
 pub returns-clause-none : goal.returns-clause-none
 returns-clause-none c =
-    none_follow c.args.register.now.ops c.args.entry (rows_in c.args.heirs.now) (row_seen c.in-Some.row.now) c.next_to.result c.requires.rows (one_by_entry (rows_in c.args.heirs.now) c.requires.heirs.order)
+    none_follow c.args.register.now.ops c.args.entry (rows_in c.args.heirs.now) (row_seen c.in-Some.row.now) c.next_to.result c.requires.rows (one_row (rows_in c.args.heirs.now) c.requires.heirs.order)
     (sym c.stands.ensures ∙ c.if-stands.false) c.in-Some.ensures.some c.next_to.ensures.none

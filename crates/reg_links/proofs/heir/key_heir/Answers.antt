@@ -1,5 +1,5 @@
 use Rattle.std.proofs.Common.{None, Some}
-use Rattle.reg_settle.specs.Keeping.{key_bytes}
+use Rattle.reg_report.specs.Keys.{key_bytes}
 use Rattle.reg_links.specs.Heirs.{rows_in}
 use Rattle.reg_links.proofs.Firsts.{key_found}
 use Rattle.reg_links.proofs.heir.key_heir.Goals as goal

@@ -11,5 +11,5 @@ returns c =
     subst (λ (rs : List Row). AreLive rs c.in_ok-subjects.subjects.items)
     (ap (map row_seen) c.keep_new.ensures
     ∙ new_seen c.args.earlier.now c.in_ok-rows.rows.items
-    ∙ ap (filter (is_new c.args.earlier.now)) c.in_ok-rows.ensures)
+    ∙ ap (filter (is_new c.args.earlier.now)) c.in_ok-rows.ensures.rows)
     c.in_ok-subjects.ensures

@@ -1,4 +1,4 @@
-use Rattle.std.proofs.Common.{◌≡◌, map, take}
+use Rattle.std.proofs.Common.{take}
 use Rattle.reg_lint.specs.Screening.{AreScreened}
 use Rattle.reg_lint.proofs.screening.looked_at.Given as goal
 

@@ -1,7 +1,7 @@
 use Rattle.std.proofs.Common.{◌≡◌, ◌++◌, ◌∷◌, [], not, map, take, filter, Bool, List, ap, sym, ◌∙◌}
 use Rattle.std.proofs.lemmas.List.Elements.{filter-append}
 use Rattle.reg_report.specs.Conflicts.{KeyBytes, bytes_of}
-use Rattle.reg_news.specs.Keys.{has_key}
+use Rattle.reg_disorder.specs.Keys.{has_key}
 use Rattle.reg_news.proofs.KeyLemmas.{items_more, items_all}
 use Rattle.reg_news.proofs.keys.unknown.Goals as goal
 

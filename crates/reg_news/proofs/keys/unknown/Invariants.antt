@@ -1,6 +1,6 @@
 use Rattle.std.proofs.Common.{◌≡◌, not, map, take, filter}
 use Rattle.reg_report.specs.Conflicts.{bytes_of}
-use Rattle.reg_news.specs.Keys.{has_key}
+use Rattle.reg_disorder.specs.Keys.{has_key}
 use Rattle.reg_news.proofs.keys.unknown.Given as goal
 
 abbrev pub invariant-loop-key : goal.invariant-loop-key

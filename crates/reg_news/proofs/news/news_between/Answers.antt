@@ -1,6 +1,5 @@
-use Rattle.std.proofs.Common.{◌≡◌, List, length, map, ap, sym, ◌∙◌, subst}
+use Rattle.std.proofs.Common.{length, map, ap, sym, ◌∙◌}
 use Rattle.std.proofs.lemmas.List.{length-map}
-use Rattle.reg_op.specs.Rows.{Row, rows}
 use Rattle.reg_op.specs.declared.status.Status.TheVariants.{Superseded, Retired}
 use Rattle.reg_report.specs.Conflicts.{bytes_of}
 use Rattle.reg_report.specs.Seen.{row_seen}

@@ -1,5 +1,4 @@
-use Rattle.std.proofs.Common.{◌≡◌, true, List, sym, subst}
-use Rattle.reg_op.specs.Set as set
+use Rattle.std.proofs.Common.{◌≡◌, true, List, subst}
 use Rattle.reg_op.specs.Operations.{Op, Ops, kept}
 use Rattle.reg_op.specs.Lists.{has}
 use Rattle.reg_op.proofs.ContentLemmas.{union_right}

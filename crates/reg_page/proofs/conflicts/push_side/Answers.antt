@@ -1,6 +1,6 @@
 use Rattle.std.proofs.Common.{◌∙◌}
 use Rattle.std.specs.List.{flat_map}
-use Rattle.html_text.proofs.JoinLemmas.{next}
+use Rattle.html_page.proofs.JoinLemmas.{next}
 use Rattle.html_page.specs.Templates.{side_start, word}
 use Rattle.html_page.specs.Words.{compared}
 use Rattle.reg_op.specs.Text.{printed}

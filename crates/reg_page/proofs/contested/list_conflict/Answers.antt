@@ -1,5 +1,5 @@
 use Rattle.std.specs.List.{flat_map}
-use Rattle.html_text.proofs.JoinLemmas.{next}
+use Rattle.html_page.proofs.JoinLemmas.{next}
 use Rattle.html_page.specs.Templates.{pair}
 use Rattle.reg_page.specs.Page.{pairs_among}
 use Rattle.reg_page.proofs.BlockLemmas.{listed}

@@ -1,5 +1,5 @@
 use Rattle.std.proofs.lemmas.List.{nil_from_length}
-use Rattle.html_text.proofs.JoinLemmas.{leads_init, leads_more}
+use Rattle.html_page.proofs.JoinLemmas.{leads_init, leads_more}
 use Rattle.reg_report.specs.declared.conflict.Conflict.{Conflict}
 use Rattle.reg_report.specs.Contenders.{conflict_seen}
 use Rattle.html_page.specs.Templates.{conflict}

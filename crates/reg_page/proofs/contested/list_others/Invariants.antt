@@ -1,6 +1,6 @@
 use Rattle.std.proofs.Common.{◌≡◌, ◌++◌, length}
 use Rattle.std.specs.List.{flat_map}
-use Rattle.html_text.specs.Pieces.{html}
+use Rattle.html_page.specs.Pieces.{html}
 use Rattle.html_page.specs.Templates.{pair}
 use Rattle.reg_page.specs.Page.{pairs_from}
 use Rattle.reg_page.specs.Blocks.{Setting, bytes_of}

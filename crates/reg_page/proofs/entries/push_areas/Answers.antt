@@ -1,6 +1,6 @@
 use Rattle.std.proofs.Common.{ap, ℕ}
 use Rattle.std.proofs.lemmas.List.{nil_from_length}
-use Rattle.html_text.proofs.JoinLemmas.{leads_init, leads_more}
+use Rattle.html_page.proofs.JoinLemmas.{leads_init, leads_more}
 use Rattle.reg_page.proofs.LoopLemmas.{as_others, mapped}
 use Rattle.std.specs.Global.{Vec}
 use Rattle.html_page.specs.Templates.{area}

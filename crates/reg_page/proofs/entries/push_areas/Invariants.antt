@@ -1,7 +1,7 @@
 use Rattle.std.proofs.Common.{◌++◌, length, ℕ}
 use Rattle.std.specs.List.{flat_map}
-use Rattle.html_text.specs.Pieces.{html}
-use Rattle.html_text.proofs.JoinLemmas.{Leads}
+use Rattle.html_page.specs.Pieces.{html}
+use Rattle.html_page.proofs.JoinLemmas.{Leads}
 use Rattle.std.specs.Global.{Vec}
 use Rattle.html_page.specs.Templates.{area}
 use Rattle.reg_page.proofs.entries.push_areas.Given as goal

@@ -1,7 +1,7 @@
 use Rattle.std.proofs.Common.{ap, ◌∙◌, map, ℕ}
 use Rattle.std.specs.Global.{Vec}
 use Rattle.std.specs.List.{flat_map}
-use Rattle.html_text.proofs.JoinLemmas.{next}
+use Rattle.html_page.proofs.JoinLemmas.{next}
 use Rattle.html_page.specs.Templates.{entry_start, entry_text, question, entry_id, event, by, map_of, area, kind_and_standing}
 use Rattle.reg_op.specs.Status.{status}
 use Rattle.reg_op.specs.Text.{printed}

@@ -1,6 +1,6 @@
 use Rattle.std.proofs.lemmas.List.{nil_from_length}
 use Rattle.std.specs.List.{flat_map}
-use Rattle.html_text.proofs.JoinLemmas.{leads_init, leads_more}
+use Rattle.html_page.proofs.JoinLemmas.{leads_init, leads_more}
 use Rattle.reg_page.proofs.LoopLemmas.{flattened}
 use Rattle.reg_op.specs.Operations.{Op}
 use Rattle.html_page.specs.Templates.{event}

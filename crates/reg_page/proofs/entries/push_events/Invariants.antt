@@ -1,7 +1,7 @@
 use Rattle.std.proofs.Common.{◌++◌, length}
 use Rattle.std.specs.List.{flat_map}
-use Rattle.html_text.specs.Pieces.{html}
-use Rattle.html_text.proofs.JoinLemmas.{Leads}
+use Rattle.html_page.specs.Pieces.{html}
+use Rattle.html_page.proofs.JoinLemmas.{Leads}
 use Rattle.reg_op.specs.Operations.{Op}
 use Rattle.html_page.specs.Templates.{event}
 use Rattle.reg_page.specs.Page.{events_in, named}

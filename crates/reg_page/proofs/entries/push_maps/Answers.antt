@@ -1,5 +1,5 @@
 use Rattle.std.proofs.lemmas.List.{nil_from_length}
-use Rattle.html_text.proofs.JoinLemmas.{leads_init, leads_more}
+use Rattle.html_page.proofs.JoinLemmas.{leads_init, leads_more}
 use Rattle.reg_page.proofs.LoopLemmas.{as_others, mapped}
 use Rattle.html_page.specs.Templates.{map_of}
 use Rattle.reg_page.specs.declared.boxes.Edges.{Edges}

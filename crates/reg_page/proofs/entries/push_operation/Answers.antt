@@ -1,5 +1,5 @@
 use Rattle.std.proofs.Common.{ap, ◌∙◌}
-use Rattle.html_text.proofs.JoinLemmas.{next}
+use Rattle.html_page.proofs.JoinLemmas.{next}
 use Rattle.html_page.specs.Templates.{operation_id, operation_note}
 use Rattle.reg_op.specs.Text.{printed}
 use Rattle.reg_page.specs.Page.{named}

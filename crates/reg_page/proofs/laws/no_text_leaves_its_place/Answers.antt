@@ -1,6 +1,6 @@
 use Rattle.std.proofs.Common.{ap, sym, ◌∙◌}
-use Rattle.html_text.specs.Pieces.{html}
-use Rattle.html_text.specs.Places.{tags}
+use Rattle.html_page.specs.Pieces.{html}
+use Rattle.html_page.specs.Places.{tags}
 use Rattle.html_page.specs.Templates.{page}
 use Rattle.html_page.proofs.PageLemmas.{places, same}
 use Rattle.reg_page.specs.Page.{named}

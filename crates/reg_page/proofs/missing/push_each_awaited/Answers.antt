@@ -1,6 +1,6 @@
 use Rattle.std.proofs.Common.{ap, ◌∙◌}
 use Rattle.std.proofs.lemmas.List.{nil_from_length}
-use Rattle.html_text.proofs.JoinLemmas.{leads_init, leads_more}
+use Rattle.html_page.proofs.JoinLemmas.{leads_init, leads_more}
 use Rattle.reg_page.specs.Page.{named}
 use Rattle.reg_page.proofs.LoopLemmas.{as_others, mapped}
 use Rattle.reg_op.specs.Ids.{Id}

@@ -1,4 +1,4 @@
-use Rattle.html_text.proofs.JoinLemmas.{next}
+use Rattle.html_page.proofs.JoinLemmas.{next}
 use Rattle.reg_page.proofs.BlockLemmas.{all_listed}
 use Rattle.reg_page.proofs.page.blocks_of.Goals as goal
 

@@ -1,5 +1,5 @@
 use Rattle.std.proofs.Common.{map, ap}
-use Rattle.html_text.proofs.JoinLemmas.{next}
+use Rattle.html_page.proofs.JoinLemmas.{next}
 use Rattle.html_page.specs.Templates.{section, conflict}
 use Rattle.html_page.specs.declared.markup.TheConstants.{CONFLICTS_START, CONFLICTS_END}
 use Rattle.reg_report.specs.Contenders.{conflict_seen}

@@ -1,6 +1,6 @@
 use Rattle.std.proofs.Common.{◌≡◌, List, ℕ, map, subst, inl, inr}
 use Rattle.byte_io.specs.Whole.{WritesAll}
-use Rattle.html_text.specs.Pieces.{html}
+use Rattle.html_page.specs.Pieces.{html}
 use Rattle.html_page.specs.Templates.{page}
 use Rattle.reg_report.specs.Contenders.{conflict_seen}
 use Rattle.reg_page.specs.Descriptions.{InOrder}

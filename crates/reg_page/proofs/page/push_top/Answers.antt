@@ -1,4 +1,4 @@
-use Rattle.html_text.proofs.JoinLemmas.{next}
+use Rattle.html_page.proofs.JoinLemmas.{next}
 use Rattle.reg_page.proofs.page.push_top.Goals as goal
 
 pub returns : goal.returns

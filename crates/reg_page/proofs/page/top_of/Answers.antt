@@ -1,5 +1,5 @@
 use Rattle.std.proofs.Common.{◌++◌, ap, ◌∙◌}
-use Rattle.html_text.specs.Pieces.{html}
+use Rattle.html_page.specs.Pieces.{html}
 use Rattle.reg_page.specs.Parts.{top}
 use Rattle.reg_page.proofs.page.top_of.Goals as goal
 

@@ -1,4 +1,4 @@
-use Rattle.html_text.proofs.JoinLemmas.{next}
+use Rattle.html_page.proofs.JoinLemmas.{next}
 use Rattle.reg_page.proofs.BlockLemmas.{listed}
 use Rattle.reg_page.proofs.table.list_both.Goals as goal
 

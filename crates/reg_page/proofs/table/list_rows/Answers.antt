@@ -2,7 +2,7 @@ use Rattle.std.proofs.Common.{map, take, ap, ◌∙◌}
 use Rattle.std.specs.Borrow.{Bor}
 use Rattle.std.specs.List.{flat_map}
 use Rattle.std.proofs.lemmas.List.{take_all}
-use Rattle.html_text.proofs.JoinLemmas.{nothing}
+use Rattle.html_page.proofs.JoinLemmas.{nothing}
 use Rattle.html_page.specs.Templates.{entry}
 use Rattle.reg_page.specs.declared.described.Described.{Described}
 use Rattle.reg_page.specs.Blocks.{bytes_of}

@@ -10,5 +10,5 @@ pub returns : goal.returns
 returns c =
     let made = map conflict_seen c.in_ok-made.made.items in
     conflicts_are (rows c.args.register.now.ops) c.in_ok-contenders.contenders.items made
-    (subst (λ (rs : List Row). AreContenders rs c.in_ok-contenders.contenders.items) (ap (map row_seen) c.deref.ensures.value ∙ c.in_ok-rows.ensures) c.in_ok-contenders.ensures.contenders)
+    (subst (λ (rs : List Row). AreContenders rs c.in_ok-contenders.contenders.items) (ap (map row_seen) c.deref.ensures.value ∙ c.in_ok-rows.ensures.rows) c.in_ok-contenders.ensures.contenders)
     (subst (λ (cs : List Contender). Tells cs made) c.deref-2.ensures.value c.in_ok-made.ensures)

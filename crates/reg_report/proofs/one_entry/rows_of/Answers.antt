@@ -9,4 +9,4 @@ pub returns : goal.returns
 returns c =
     ap (map row_seen) c.keep_those_of.ensures
     ∙ rows_of_one c.args.entry c.in_ok-rows.rows.items
-    ∙ ap (filter (λ (r : RowOf). is_same c.args.entry r.entry)) c.in_ok-rows.ensures
+    ∙ ap (filter (λ (r : RowOf). is_same c.args.entry r.entry)) c.in_ok-rows.ensures.rows

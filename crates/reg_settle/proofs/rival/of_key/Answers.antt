@@ -4,8 +4,9 @@ use Rattle.std.specs.Ordering.{is_lt}
 use Rattle.std.proofs.lemmas.List.{take_rest}
 use Rattle.std.proofs.lemmas.List.Sorted.{IsPartitionPoint-from_clause}
 use Rattle.reg_report.specs.Conflicts.{key_cmp}
+use Rattle.reg_report.specs.Keys.{key_bytes}
 use Rattle.reg_settle.specs.declared.rival.Rival.{Rival}
-use Rattle.reg_settle.specs.Keeping.{key_bytes, is_of_key}
+use Rattle.reg_settle.specs.Keeping.{is_of_key}
 use Rattle.reg_settle.proofs.Candidates.{below_parted, up_to_parted, tied_is}
 use Rattle.reg_settle.proofs.Windows.{window_is}
 use Rattle.reg_settle.proofs.rival.of_key.Goals as goal

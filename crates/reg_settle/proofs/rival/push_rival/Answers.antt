@@ -4,6 +4,6 @@ use Rattle.reg_settle.proofs.rival.push_rival.Goals as goal
 
 pub returns : goal.returns
 returns c = inl (
-  record { stands = c.stands.ensures.0 c.if-not-stands.false; no_keep = λ k. not_both c.is_among.result (c.is_among.ensures.1 k) c.if-is_among.false },
+  record { stands = c.is_live.ensures.0 c.if-not-is_live.false; no_keep = λ k. not_both c.is_among.result (c.is_among.ensures.1 k) c.if-is_among.false },
   (record { key = c.key_of-key.result; row = c.args.row }, record { entry = refl; keyed = c.key_of-key.ensures }, c.in_ok-push.ensures.items),
 )

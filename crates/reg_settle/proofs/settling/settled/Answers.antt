@@ -1,12 +1,13 @@
 use Rattle.std.proofs.Common.{None, [], map, take, filter, refl, sym, subst, inl, inr}
 use Rattle.reg_op.specs.Ids.{Id}
+use Rattle.reg_report.specs.Keys.{key_bytes}
 use Rattle.reg_report.specs.Seen.{row_seen}
+use Rattle.reg_report.proofs.FoundLemmas.{one_row}
 use Rattle.reg_settle.specs.declared.fault.SettleFault.{SettleFault}
 use Rattle.reg_settle.specs.declared.rival.Rival.{Rival}
 use Rattle.reg_settle.specs.Settling.{IsObjection}
-use Rattle.reg_settle.specs.Keeping.{key_bytes, with_row, is_of_key, Retires}
+use Rattle.reg_settle.specs.Keeping.{with_row, is_of_key, Retires}
 use Rattle.reg_settle.proofs.Steps.{goes_refused, goes_through, nothing_gone}
-use Rattle.reg_settle.proofs.Ordered.{one_by_entry}
 use Rattle.reg_settle.proofs.Kept.{Kept, nothing_kept, nothing_held, next_kept, is_refused}
 use Rattle.reg_settle.proofs.settling.settled.Goals as goal
 
@@ -54,7 +55,7 @@ returns-in-Err-keep_row-clause-fault c =
     let has = c.in-Ok-standing_row.ensures.ok.0 in
     elim (c.in-Err-keep_row.ensures.fault at c.loop-entry.invariant.1.1) [
       | inl taken ↦
-          let why = is_refused rs keeps before c.loop-entry.ids.items at (one_by_entry rs c.requires) c.loop-entry.invariant.1.2 keep has.there k c.key_of-key.ensures e (at k) has.is c.in-Ok-standing_row.ensures.ok.1 refl taken.0 in
+          let why = is_refused rs keeps before c.loop-entry.ids.items at (one_row rs c.requires) c.loop-entry.invariant.1.2 keep has.there k c.key_of-key.ensures e (at k) has.is c.in-Ok-standing_row.ensures.ok.1 refl taken.0 in
           inl (goes_refused rs keeps c.loop-entry.ids.items c.loop-entry.entry-index e c.in-Err-keep_row.fault c.loop-entry-test.true c.entry-item.is
           (subst (λ (f : SettleFault). IsObjection rs before e f) (sym taken.1) why) c.loop-entry.invariant.0)
       | inr memory ↦ inr memory

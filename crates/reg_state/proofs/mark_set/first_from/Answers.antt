@@ -1,9 +1,9 @@
 use Rattle.std.proofs.Common.{rules, sym, ap, ◌∙◌, arith}
 use Rattle.std.specs.Ordering.{is_lt}
 use Rattle.std.proofs.lemmas.List.Sorted.{IsPartitionPoint-from_clause}
-use Rattle.std.proofs.lemmas.Option.{slice_get-get_or}
+use Rattle.std.proofs.lemmas.Option.{slice_get-get_or, slice_get_past}
 use Rattle.reg_op.specs.Lists.{passes}
-use Rattle.reg_op.proofs.PointLemmas.{parted, told, slice_get_past}
+use Rattle.reg_op.proofs.PointLemmas.{parted, told}
 use Rattle.reg_state.specs.MarkSets.{target_cmp}
 use Rattle.reg_state.proofs.OrderLemmas.{IsBy, marks_far, below_low, found_there}
 use Rattle.reg_state.proofs.mark_set.first_from.Goals as goal

@@ -1,8 +1,8 @@
 use Rattle.std.proofs.Common.{rules, Some, sym, ap, ◌∙◌, arith}
 use Rattle.std.proofs.lemmas.List.Sorted.{IsPartitionPoint-from_clause}
-use Rattle.std.proofs.lemmas.Option.{slice_get-get_or}
+use Rattle.std.proofs.lemmas.Option.{slice_get-get_or, slice_get_past}
 use Rattle.reg_op.specs.Lists.{passes}
-use Rattle.reg_op.proofs.PointLemmas.{parted, told, slice_get_past}
+use Rattle.reg_op.proofs.PointLemmas.{parted, told}
 use Rattle.reg_state.specs.Runs.{is_in_run}
 use Rattle.reg_state.proofs.SearchLemmas.{IsUpTo, runs_far, ends, ends_low, ends_from, ends_down}
 use Rattle.reg_state.proofs.seen.is_covered.Goals as goal

@@ -1,10 +1,10 @@
 use Rattle.std.proofs.Common.{rules, Some, sym, ap, ◌∙◌, arith}
 use Rattle.std.proofs.lemmas.List.Sorted.{IsPartitionPoint-from_clause}
-use Rattle.std.proofs.lemmas.Option.{slice_get-get_or}
+use Rattle.std.proofs.lemmas.Option.{slice_get-get_or, slice_get_past}
 use Rattle.reg_op.specs.Ids.{is_same, is_before}
 use Rattle.reg_op.specs.Operations.{Op}
 use Rattle.reg_op.specs.Lists.{passes}
-use Rattle.reg_op.proofs.PointLemmas.{parted, told, slice_get_past}
+use Rattle.reg_op.proofs.PointLemmas.{parted, told}
 use Rattle.reg_state.proofs.MergeLemmas.{IsUpTo, by_id_far, earlier_low, id_from, id_down}
 use Rattle.reg_state.proofs.table.has_id.Goals as goal
 

@@ -8,8 +8,8 @@ use Rattle.reg_supersede.proofs.check.lacking.Goals as goal
 
 pub loop-pair-init : goal.loop-pair-init
 loop-pair-init c =
-    let t = task_of c.args.order.now in
-    let x = c.args.order.now.register.now in
+    let t = task_of c.args.options.now in
+    let x = c.args.options.now.register.now in
     let bs = c.args.effects.now.bodies.items in (
       leads_first (after t x bs).ops c.args.pairs.now c.new.result.items c.new.ensures.items,
       unrefused_first t x bs c.seen-content.ensures.content c.requires.made c.new.result.items c.new.ensures.items,
@@ -18,8 +18,8 @@ loop-pair-init c =
 
 pub loop-pair-preserved : goal.loop-pair-preserved
 loop-pair-preserved c =
-    let t = task_of c.args.order.now in
-    let x = c.args.order.now.register.now in
+    let t = task_of c.args.options.now in
+    let x = c.args.options.now.register.now in
     let bs = c.args.effects.now.bodies.items in
     let k = c.loop-pair.pair-index in
     let one = c.pair-item.result in
@@ -31,8 +31,8 @@ loop-pair-preserved c =
 
 pub returns-clause-ok : goal.returns-clause-ok
 returns-clause-ok c =
-    let t = task_of c.args.order.now in
-    let x = c.args.order.now.register.now in
+    let t = task_of c.args.options.now in
+    let x = c.args.options.now.register.now in
     let k = c.loop-pair.pair-index in (
       leads_end (after t x c.args.effects.now.bodies.items).ops c.args.pairs.now (drop k c.args.pairs.now) c.loop-pair.added.list.items (pairs_ended c.args.pairs.now k c.loop-pair-test.false) c.loop-pair.invariant.0,
       c.loop-pair.invariant.1,
@@ -40,8 +40,8 @@ returns-clause-ok c =
 
 pub returns-in_err-add_pair-clause-fault : goal.returns-in_err-add_pair-clause-fault
 returns-in_err-add_pair-clause-fault c =
-    let t = task_of c.args.order.now in
-    let x = c.args.order.now.register.now in
+    let t = task_of c.args.options.now in
+    let x = c.args.options.now.register.now in
     let bs = c.args.effects.now.bodies.items in
     let k = c.loop-pair.pair-index in
     let one = c.pair-item.result in

@@ -4,4 +4,4 @@ use Rattle.reg_office.proofs.NumberLemmas.{greatest_is}
 use Rattle.reg_supersede.proofs.check.last_count.Goals as goal
 
 pub returns : goal.returns
-returns c = subst (λ s. c.greatest.result ≡ greatest c.args.order.now.replica s) c.seen.ensures.value (greatest_is c.args.order.now.replica c.seen.result.now c.greatest.result c.greatest.ensures)
+returns c = subst (λ s. c.greatest.result ≡ greatest c.args.options.now.replica s) c.seen.ensures.value (greatest_is c.args.options.now.replica c.seen.result.now c.greatest.result c.greatest.ensures)

@@ -8,8 +8,8 @@ use Rattle.reg_supersede.proofs.list.all_lines.Goals as goal
 
 pub loop-at-init : goal.loop-at-init
 loop-at-init c =
-    let t = task_of c.args.order.now in
-    let x = c.args.order.now.register.now in
+    let t = task_of c.args.options.now in
+    let x = c.args.options.now.register.now in
     let is = c.seen-content.ensures.content in
     let all = map (λ (w : Bor (List ℕ)). w.now) c.args.lines.now in (
       completes_first t x is all c.new.result.items c.new-left.result.items c.new.ensures.items c.new-left.ensures.items,
@@ -20,8 +20,8 @@ loop-at-init c =
 
 pub loop-at-preserved : goal.loop-at-preserved
 loop-at-preserved c =
-    let t = task_of c.args.order.now in
-    let x = c.args.order.now.register.now in
+    let t = task_of c.args.options.now in
+    let x = c.args.options.now.register.now in
     let at = c.loop-at.at in
     let all = map (λ (w : Bor (List ℕ)). w.now) c.args.lines.now in
     let rest = map (λ (w : Bor (List ℕ)). w.now) (drop at c.args.lines.now) in
@@ -35,13 +35,13 @@ loop-at-preserved c =
 
 pub returns-clause-done : goal.returns-clause-done
 returns-clause-done c =
-    all_done (task_of c.args.order.now) c.args.order.now.register.now (map (λ (w : Bor (List ℕ)). w.now) c.args.lines.now) (map (λ (w : Bor (List ℕ)). w.now) (drop c.loop-at.at c.args.lines.now)) (c.loop-at.at + 1)
+    all_done (task_of c.args.options.now) c.args.options.now.register.now (map (λ (w : Bor (List ℕ)). w.now) c.args.lines.now) (map (λ (w : Bor (List ℕ)). w.now) (drop c.loop-at.at c.args.lines.now)) (c.loop-at.at + 1)
     c.loop-at.effects.bodies.items c.loop-at.left.items (ended (λ (v : Bor (List ℕ)). v.now) c.args.lines.now c.loop-at.at c.loop-at-test.false) c.loop-at.invariant.0
 
 pub returns-in_err-step-clause-fault : goal.returns-in_err-step-clause-fault
 returns-in_err-step-clause-fault c =
-    let t = task_of c.args.order.now in
-    let x = c.args.order.now.register.now in
+    let t = task_of c.args.options.now in
+    let x = c.args.options.now.register.now in
     let at = c.loop-at.at in
     let all = map (λ (w : Bor (List ℕ)). w.now) c.args.lines.now in
     let rest = map (λ (w : Bor (List ℕ)). w.now) (drop at c.args.lines.now) in

@@ -1,7 +1,7 @@
 use Rattle.std.proofs.Common.{◌∙◌, subst, arith}
 use Rattle.reg_report.specs.Conflicts.{HasKey}
 use Rattle.reg_report.proofs.ContenderLemmas.{one_key}
-use Rattle.reg_texts.specs.Said.{key_bytes}
+use Rattle.reg_report.specs.Keys.{key_bytes}
 use Rattle.reg_texts.proofs.choice.is_rival.Goals as goal
 
 pub returns-then-is_same_key : goal.returns-then-is_same_key

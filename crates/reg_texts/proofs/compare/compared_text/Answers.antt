@@ -1,6 +1,6 @@
 use Rattle.std.proofs.Common.{refl, ap, sym, ◌∙◌, inl, inr, map, subst}
 use Rattle.reg_report.specs.Seen.{row_seen}
-use Rattle.reg_texts.specs.Said.{HasRow}
+use Rattle.reg_report.specs.Rows.{HasRow}
 use Rattle.reg_texts.proofs.compare.compared_text.Goals as goal
 
 pub returns-in_default-find_row-clause-fault : goal.returns-in_default-find_row-clause-fault

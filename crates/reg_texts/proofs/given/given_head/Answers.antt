@@ -1,5 +1,5 @@
 use Rattle.std.proofs.Common.{map, codes, decimal}
-use Rattle.reg_texts.specs.Said.{key_bytes}
+use Rattle.reg_report.specs.Keys.{key_bytes}
 use Rattle.reg_texts.specs.Listing.{on_line, key_text}
 use Rattle.reg_texts.proofs.HeadLemmas.{given_made}
 use Rattle.reg_texts.proofs.given.given_head.Goals as goal

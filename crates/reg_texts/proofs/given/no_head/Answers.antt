@@ -1,5 +1,5 @@
 use Rattle.std.proofs.Common.{codes, ◌++◌, ap, ◌∙◌}
-use Rattle.reg_texts.specs.Said.{key_bytes}
+use Rattle.reg_report.specs.Keys.{key_bytes}
 use Rattle.reg_texts.specs.Listing.{key_text}
 use Rattle.reg_texts.proofs.given.no_head.Goals as goal
 

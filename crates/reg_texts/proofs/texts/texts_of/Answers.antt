@@ -2,7 +2,7 @@ use Rattle.std.proofs.Common.{map, ap, ◌∙◌, subst}
 use Rattle.reg_op.specs.Rows.{rows}
 use Rattle.reg_op.specs.Set.{Ascends}
 use Rattle.reg_report.specs.Seen.{row_seen}
-use Rattle.reg_keys.specs.Rows.{row_cmp}
+use Rattle.reg_report.specs.Rows.{row_cmp}
 use Rattle.reg_texts.specs.Said.{said}
 use Rattle.reg_texts.specs.Gathered.{AreGathered}
 use Rattle.reg_texts.specs.Listing.{IsListing}

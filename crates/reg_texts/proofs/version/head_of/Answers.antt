@@ -2,7 +2,7 @@ use Rattle.std.proofs.Common.{◌++◌, ap, ◌∙◌}
 use Rattle.reg_op.specs.Text.{printed}
 use Rattle.reg_report.specs.Lines.{status_word}
 use Rattle.reg_report.specs.Seen.{row_seen}
-use Rattle.reg_texts.specs.Said.{key_bytes}
+use Rattle.reg_report.specs.Keys.{key_bytes}
 use Rattle.reg_texts.specs.Listing.{key_text}
 use Rattle.reg_texts.proofs.HeadLemmas.{head_made}
 use Rattle.reg_texts.proofs.version.head_of.Goals as goal

@@ -1,5 +1,5 @@
-use Rattle.byte_writers.proofs.Kept.{always}
-use Rattle.byte_writers.proofs.Left.{changes, given_on, any_of, any_adds}
+use Rattle.reg_writers.proofs.Kept.{always}
+use Rattle.reg_writers.proofs.Left.{changes, given_on, any_of, any_adds}
 use Rattle.reg_writers.proofs.RegisterLemmas.{many, many_add, gave_many}
 use Rattle.reg_writers.proofs.registers.nothing_printed_is_lost.Goals as goal
 

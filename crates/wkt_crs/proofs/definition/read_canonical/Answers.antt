@@ -1,10 +1,11 @@
 use Rattle.std.proofs.Common.{◌≡◌, length, sym, ap, ◌∙◌, subst, arith, nat_eq, inr, Err}
 use Rattle.std.specs.Cmp.Lexicographic.{pointwise}
+use Rattle.std.proofs.lemmas.Bool.{not-false, not-true}
 use Rattle.wkt_crs.specs.Definition.{IsCanonicalFault, of_read}
 use Rattle.wkt_crs.specs.declared.fault.ReadFault.TheVariants as read
 use Rattle.wkt_crs.proofs.Texts.{no_slot}
 use Rattle.wkt_crs.proofs.Verdicts.{value_or_fault}
-use Rattle.wkt_crs.proofs.Defining.{of_definition, spelled_by_definition, read_refused, same_bytes, not_same, told_true, told_false, same_ok, same_only}
+use Rattle.wkt_crs.proofs.Defining.{of_definition, spelled_by_definition, read_refused, same_bytes, not_same, same_ok, same_only}
 use Rattle.wkt_crs.proofs.definition.read_canonical.Goals as goal
 
 pub returns-then-not-has_identifier-clause-fault : goal.returns-then-not-has_identifier-clause-fault
@@ -17,7 +18,7 @@ returns-then-not-has_identifier-clause-only c = λ d.
 
 pub returns-then-ne-clause-fault : goal.returns-then-ne-clause-fault
 returns-then-ne-clause-fault c =
-    let other = not_same c.as_slice.result.now c.args.bytes.now (told_false (pointwise nat_eq c.as_slice.result.now c.args.bytes.now) (sym c.ne.ensures ∙ c.if-ne.true)) in (
+    let other = not_same c.as_slice.result.now c.args.bytes.now (not-true (pointwise nat_eq c.as_slice.result.now c.args.bytes.now) (sym c.ne.ensures ∙ c.if-ne.true)) in (
       c.requires,
       (
         c.in-Ok.crs,
@@ -29,13 +30,13 @@ returns-then-ne-clause-fault c =
 
 pub returns-then-ne-clause-only : goal.returns-then-ne-clause-only
 returns-then-ne-clause-only c = λ d.
-    let other = not_same c.as_slice.result.now c.args.bytes.now (told_false (pointwise nat_eq c.as_slice.result.now c.args.bytes.now) (sym c.ne.ensures ∙ c.if-ne.true)) in
+    let other = not_same c.as_slice.result.now c.args.bytes.now (not-true (pointwise nat_eq c.as_slice.result.now c.args.bytes.now) (sym c.ne.ensures ∙ c.if-ne.true)) in
     absurd (other (c.as_slice.ensures.value ∙ (c.in-Ok-write_crs.ensures ∙ sym (of_definition c.args.bytes.now c.in-Ok.crs d c.in-Ok.ensures.found).0)))
 
 pub defined-requires : goal.defined-requires
 defined-requires c =
     let short = c.requires in
-    let same = sym c.as_slice.ensures.value ∙ same_bytes c.as_slice.result.now c.args.bytes.now (told_true (pointwise nat_eq c.as_slice.result.now c.args.bytes.now) (sym c.ne.ensures ∙ c.if-ne.false)) in (
+    let same = sym c.as_slice.ensures.value ∙ same_bytes c.as_slice.result.now c.args.bytes.now (not-false (pointwise nat_eq c.as_slice.result.now c.args.bytes.now) (sym c.ne.ensures ∙ c.if-ne.false)) in (
       c.in-Ok-write_crs.ensures,
       (let n = ap length same in omega (arith, n, short)),
       c.has_identifier.ensures.some c.if-not-has_identifier.false,
@@ -43,12 +44,12 @@ defined-requires c =
 
 pub returns-clause-ok : goal.returns-clause-ok
 returns-clause-ok c =
-    let same = sym c.as_slice.ensures.value ∙ same_bytes c.as_slice.result.now c.args.bytes.now (told_true (pointwise nat_eq c.as_slice.result.now c.args.bytes.now) (sym c.ne.ensures ∙ c.if-ne.false)) in
+    let same = sym c.as_slice.ensures.value ∙ same_bytes c.as_slice.result.now c.args.bytes.now (not-false (pointwise nat_eq c.as_slice.result.now c.args.bytes.now) (sym c.ne.ensures ∙ c.if-ne.false)) in
     same_ok c.defined.result c.in-Ok-write_crs.text.items c.args.bytes.now same c.defined.ensures.ok
 
 pub returns-clause-only : goal.returns-clause-only
 returns-clause-only c = λ d.
-    let same = sym c.as_slice.ensures.value ∙ same_bytes c.as_slice.result.now c.args.bytes.now (told_true (pointwise nat_eq c.as_slice.result.now c.args.bytes.now) (sym c.ne.ensures ∙ c.if-ne.false)) in
+    let same = sym c.as_slice.ensures.value ∙ same_bytes c.as_slice.result.now c.args.bytes.now (not-false (pointwise nat_eq c.as_slice.result.now c.args.bytes.now) (sym c.ne.ensures ∙ c.if-ne.false)) in
     same_only c.defined.result c.in-Ok-write_crs.text.items c.args.bytes.now same c.defined.ensures.ok c.defined.ensures.fault
 
 pub returns-in-Err-clause-fault : goal.returns-in-Err-clause-fault

@@ -1,4 +1,4 @@
-use Rattle.std.proofs.Common.{subst, sym, ◌∙◌}
+use Rattle.std.proofs.Common.{subst, sym}
 use Rattle.wkt_crs.specs.Source.{ReadsText}
 use Rattle.wkt_crs.proofs.Sources.{read_told}
 use Rattle.wkt_crs.proofs.source.read_crs_from.Goals as goal

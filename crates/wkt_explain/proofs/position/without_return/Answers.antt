@@ -1,4 +1,4 @@
-use Rattle.std.proofs.Common.{◌≡◌, List, ap, sym, ◌∙◌}
+use Rattle.std.proofs.Common.{ap, sym, ◌∙◌}
 use Rattle.wkt_explain.specs.Position.{without_return}
 use Rattle.wkt_explain.proofs.ReturnLemmas.{return_cut, no_return, no_line}
 use Rattle.wkt_explain.proofs.position.without_return.Goals as goal

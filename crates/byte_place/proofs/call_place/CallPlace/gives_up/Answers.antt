@@ -7,6 +7,13 @@ use Rattle.byte_place.proofs.call_place.CallPlace.gives_up.Goals as goal
 pub invariant_of-self : goal.invariant_of-self
 invariant_of-self g c =
     let p = c.args.self.now in
+    let i = c.in-Reserved.file in
+    let old = calls (g.S.System.state p.system) in
+    record { course = ∥∥₁_map (as_at p.out.now p.beside.now p.taken.bytes p.unread p.at (at.Reserved i) old c.in-Reserved.is p.course) (λ k. gives_owned p.out.now p.beside.now p.taken.bytes p.unread i old k) }
+
+pub invariant_of-self-in-Owned : goal.invariant_of-self-in-Owned
+invariant_of-self-in-Owned g c =
+    let p = c.args.self.now in
     let i = c.in-Owned.file in
     let old = calls (g.S.System.state p.system) in
     record { course = ∥∥₁_map (as_at p.out.now p.beside.now p.taken.bytes p.unread p.at (at.Owned i) old c.in-Owned.is p.course) (λ k. gives_owned p.out.now p.beside.now p.taken.bytes p.unread i old k) }

@@ -24,8 +24,17 @@ invariant_of-self-in-Ok-false g c =
     let e : new ≡ Compares p.out.now c.args.read.now false ∷ old = search rules in
     record { course = ∥∥₁_map (as_at p.out.now p.beside.now p.taken.bytes p.unread p.at (at.Synced i) old c.in-Synced.is p.course) (λ k. changed p.out.now p.beside.now p.taken.bytes p.unread i (Compares p.out.now c.args.read.now false) old new (λ d m. refl) k e) }
 
-pub invariant_of-self-in-Err : goal.invariant_of-self-in-Err
-invariant_of-self-in-Err g c =
+pub invariant_of-self-in-Err-NotOpened : goal.invariant_of-self-in-Err-NotOpened
+invariant_of-self-in-Err-NotOpened g c =
+    let p = c.args.self.now in
+    let i = c.in-Synced.file in
+    let old = calls (g.S.System.state p.system) in
+    let new = calls (g.S.System.state c.has.new.self) in
+    let e : new ≡ Fails ∷ old = search rules in
+    record { course = ∥∥₁_map (as_at p.out.now p.beside.now p.taken.bytes p.unread p.at (at.Synced i) old c.in-Synced.is p.course) (λ k. changed p.out.now p.beside.now p.taken.bytes p.unread i Fails old new (λ d m. refl) k e) }
+
+pub invariant_of-self-in-Err-Cut : goal.invariant_of-self-in-Err-Cut
+invariant_of-self-in-Err-Cut g c =
     let p = c.args.self.now in
     let i = c.in-Synced.file in
     let old = calls (g.S.System.state p.system) in

@@ -15,7 +15,7 @@ returns-in-Err-make_ready-clause-fault g c =
     inr (inl (
       c.in-Ok.register,
       (c.in-Ok.ensures.came, refl),
-      subst (λ (k : ℕ). IsUnreadyIn a c.args.order.now k c.in-Ok.register old new c.in-Err-make_ready.why) c.next-next.ensures
+      subst (λ (k : ℕ). IsUnreadyIn a c.args.options.now k c.in-Ok.register old new c.in-Err-make_ready.why) c.next-next.ensures
           (c.in-Err-make_ready.ensures.fault c.args.store.now c.load.ensures.same),
     ))
 
@@ -25,7 +25,7 @@ returns-in-Err-keep_and_tell-clause-fault g c =
     let made = c.in-Ok-make_ready.ready in
     let old = map g.F.Source.state c.args.files.now in
     let new = map g.F.Source.state c.make_ready.new.files in
-    let ready = subst (λ (k : ℕ). IsReadyIn a c.args.order.now k c.in-Ok.register old new made.register made.lines.items made.passed) c.next-next.ensures
+    let ready = subst (λ (k : ℕ). IsReadyIn a c.args.options.now k c.in-Ok.register old new made.register made.lines.items made.passed) c.next-next.ensures
     (c.in-Ok-make_ready.ensures.ready c.args.store.now c.load.ensures.same) in
     let before = g.K.Sink.state c.args.sink.now in
     let after = g.K.Sink.state c.keep_and_tell.new.sink in
@@ -43,7 +43,7 @@ returns-in-Ok-answer-clause-imported g c =
     let made = c.in-Ok-make_ready.ready in
     let old = map g.F.Source.state c.args.files.now in
     let new = map g.F.Source.state c.make_ready.new.files in
-    let ready = subst (λ (k : ℕ). IsReadyIn a c.args.order.now k c.in-Ok.register old new made.register made.lines.items made.passed) c.next-next.ensures
+    let ready = subst (λ (k : ℕ). IsReadyIn a c.args.options.now k c.in-Ok.register old new made.register made.lines.items made.passed) c.next-next.ensures
     (c.in-Ok-make_ready.ensures.ready c.args.store.now c.load.ensures.same) in
     let before = g.K.Sink.state c.args.sink.now in
     let after = g.K.Sink.state c.keep_and_tell.new.sink in
@@ -53,7 +53,7 @@ returns-in-Ok-answer-clause-imported g c =
       c.in-Ok.register,
       made.register,
       made.lines.items,
-      subst (λ (p : Option Unimported). IsReadyIn a c.args.order.now (g.T.Store.next c.args.store.now) c.in-Ok.register old new made.register made.lines.items p) c.in-Ok-answer.ensures.done ready,
+      subst (λ (p : Option Unimported). IsReadyIn a c.args.options.now (g.T.Store.next c.args.store.now) c.in-Ok.register old new made.register made.lines.items p) c.in-Ok-answer.ensures.done ready,
       told,
     )
 
@@ -63,7 +63,7 @@ returns-clause-fault g c =
     let made = c.in-Ok-make_ready.ready in
     let old = map g.F.Source.state c.args.files.now in
     let new = map g.F.Source.state c.make_ready.new.files in
-    let ready = subst (λ (k : ℕ). IsReadyIn a c.args.order.now k c.in-Ok.register old new made.register made.lines.items made.passed) c.next-next.ensures
+    let ready = subst (λ (k : ℕ). IsReadyIn a c.args.options.now k c.in-Ok.register old new made.register made.lines.items made.passed) c.next-next.ensures
     (c.in-Ok-make_ready.ensures.ready c.args.store.now c.load.ensures.same) in
     let before = g.K.Sink.state c.args.sink.now in
     let after = g.K.Sink.state c.keep_and_tell.new.sink in

@@ -16,7 +16,7 @@ returns-in-Err-make_ready-clause-fault g c =
     inr (inl (
       c.in-Ok.register,
       (c.in-Ok.ensures.came, refl),
-      subst (λ (k : ℕ). IsUnreadyIn a c.args.order.now k c.in-Ok.register old new c.in-Err-make_ready.why) c.next-next.ensures
+      subst (λ (k : ℕ). IsUnreadyIn a c.args.options.now k c.in-Ok.register old new c.in-Err-make_ready.why) c.next-next.ensures
           (c.in-Err-make_ready.ensures.fault c.args.store.now c.load.ensures.same),
     ))
 
@@ -26,7 +26,7 @@ returns-in-Err-has_room-clause-fault g c =
     let made = c.in-Ok-make_ready.ready in
     let old = map g.F.Source.state c.args.files.now in
     let new = map g.F.Source.state c.make_ready.new.files in
-    let ready = subst (λ (k : ℕ). IsReadyIn a c.args.order.now k c.in-Ok.register old new made.register made.lines.items made.passed) c.next-next.ensures
+    let ready = subst (λ (k : ℕ). IsReadyIn a c.args.options.now k c.in-Ok.register old new made.register made.lines.items made.passed) c.next-next.ensures
     (c.in-Ok-make_ready.ensures.ready c.args.store.now c.load.ensures.same) in
     let full = c.in-Err-has_room.ensures.full c.args.store.now c.in-Ok.register c.load.ensures.same c.in-Ok.ensures.came in
     let before = g.K.Sink.state c.args.sink.now in
@@ -40,7 +40,7 @@ returns-in-Err-tell-clause-fault g c =
     let made = c.in-Ok-make_ready.ready in
     let old = map g.F.Source.state c.args.files.now in
     let new = map g.F.Source.state c.make_ready.new.files in
-    let ready = subst (λ (k : ℕ). IsReadyIn a c.args.order.now k c.in-Ok.register old new made.register made.lines.items made.passed) c.next-next.ensures
+    let ready = subst (λ (k : ℕ). IsReadyIn a c.args.options.now k c.in-Ok.register old new made.register made.lines.items made.passed) c.next-next.ensures
     (c.in-Ok-make_ready.ensures.ready c.args.store.now c.load.ensures.same) in
     let fits = c.in_default.ensures.fits c.args.store.now c.in-Ok.register c.load.ensures.same c.in-Ok.ensures.came in
     let before = g.K.Sink.state c.args.sink.now in
@@ -57,14 +57,14 @@ returns-in-Ok-answer-clause-imported g c =
     let made = c.in-Ok-make_ready.ready in
     let old = map g.F.Source.state c.args.files.now in
     let new = map g.F.Source.state c.make_ready.new.files in
-    let ready = subst (λ (k : ℕ). IsReadyIn a c.args.order.now k c.in-Ok.register old new made.register made.lines.items made.passed) c.next-next.ensures
+    let ready = subst (λ (k : ℕ). IsReadyIn a c.args.options.now k c.in-Ok.register old new made.register made.lines.items made.passed) c.next-next.ensures
     (c.in-Ok-make_ready.ensures.ready c.args.store.now c.load.ensures.same) in
     let fits = c.in_default.ensures.fits c.args.store.now c.in-Ok.register c.load.ensures.same c.in-Ok.ensures.came in
     let all = subst (λ (l : List ℕ). WritesAll l (g.K.Sink.state c.args.sink.now) (g.K.Sink.state c.tell.new.sink)) c.deref.ensures.value c.in_default-tell.ensures.written in (
       c.in-Ok.register,
       made.register,
       made.lines.items,
-      subst (λ (p : Option Unimported). IsReadyIn a c.args.order.now (g.T.Store.next c.args.store.now) c.in-Ok.register old new made.register made.lines.items p) c.in-Ok-answer.ensures.done ready,
+      subst (λ (p : Option Unimported). IsReadyIn a c.args.options.now (g.T.Store.next c.args.store.now) c.in-Ok.register old new made.register made.lines.items p) c.in-Ok-answer.ensures.done ready,
       (fits, all),
     )
 
@@ -74,7 +74,7 @@ returns-clause-fault g c =
     let made = c.in-Ok-make_ready.ready in
     let old = map g.F.Source.state c.args.files.now in
     let new = map g.F.Source.state c.make_ready.new.files in
-    let ready = subst (λ (k : ℕ). IsReadyIn a c.args.order.now k c.in-Ok.register old new made.register made.lines.items made.passed) c.next-next.ensures
+    let ready = subst (λ (k : ℕ). IsReadyIn a c.args.options.now k c.in-Ok.register old new made.register made.lines.items made.passed) c.next-next.ensures
     (c.in-Ok-make_ready.ensures.ready c.args.store.now c.load.ensures.same) in
     let fits = c.in_default.ensures.fits c.args.store.now c.in-Ok.register c.load.ensures.same c.in-Ok.ensures.came in
     let all = subst (λ (l : List ℕ). WritesAll l (g.K.Sink.state c.args.sink.now) (g.K.Sink.state c.tell.new.sink)) c.deref.ensures.value c.in_default-tell.ensures.written in

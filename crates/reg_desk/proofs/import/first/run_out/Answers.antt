@@ -5,8 +5,8 @@ use Rattle.reg_engine.specs.declared.fault.CliFault.TheVariants as cli
 use Rattle.reg_desk.proofs.ImportEngineLemmas.{plain_is}
 use Rattle.reg_desk.proofs.import.first.run_out.Goals as goal
 
-pub returns-then-order-gt-MAX : goal.returns-then-order-gt-MAX
-returns-then-order-gt-MAX c = λ x is. inr (inl (
+pub returns-then-options-gt-MAX : goal.returns-then-options-gt-MAX
+returns-then-options-gt-MAX c = λ x is. inr (inl (
   plain_is (λ f. f ≡ cli.Refused (refusal.Office office.NoteTooLong)) c.plain.result (cli.Refused (refusal.Office office.NoteTooLong)) c.plain.ensures.fault c.plain.ensures.notes refl,
   omega arith,
 ))

@@ -12,7 +12,7 @@ returns-in_default-clause-fault c = inl (c.run_out.ensures c.args.register c.see
 
 pub returns-in-Ok-made_of-clause-made : goal.returns-in-Ok-made_of-clause-made
 returns-in-Ok-made_of-clause-made c =
-    let o = c.args.order.now in
+    let o = c.args.options.now in
     let files = bytes_of c.args.files.now in
     let given = c.in-Ok.given in
     let r = c.in-Ok-made_of.ready in
@@ -22,7 +22,7 @@ returns-in-Ok-made_of-clause-made c =
 
 pub returns-clause-fault : goal.returns-clause-fault
 returns-clause-fault c =
-    let o = c.args.order.now in
+    let o = c.args.options.now in
     let files = bytes_of c.args.files.now in
     let given = c.in-Ok.given in
     let u = c.in-Err.why in

@@ -10,7 +10,7 @@ pub returns-in-Err-clause-fault : goal.returns-in-Err-clause-fault
 returns-in-Err-clause-fault c = c.unlinked.ensures c.args.register c.in-Err.ensures.fault
 
 pub returns-in_default-clause-fault : goal.returns-in_default-clause-fault
-returns-in_default-clause-fault c = inl (refused.Memory, made_may c.args.order.now c.args.register (readings c.args.texts.now) _ _ _ c.in-Ok.ensures.ok, plain_is (λ g. g ≡ cli.Memory) c.plain.result cli.Memory c.plain.ensures.fault c.plain.ensures.notes refl)
+returns-in_default-clause-fault c = inl (refused.Memory, made_may c.args.options.now c.args.register (readings c.args.texts.now) _ _ _ c.in-Ok.ensures.ok, plain_is (λ g. g ≡ cli.Memory) c.plain.result cli.Memory c.plain.ensures.fault c.plain.ensures.notes refl)
 
 pub returns-in-Err-lines_of-clause-fault : goal.returns-in-Err-lines_of-clause-fault
-returns-in-Err-lines_of-clause-fault c = inl (refused.Memory, made_may c.args.order.now c.args.register (readings c.args.texts.now) _ _ _ c.in-Ok.ensures.ok, plain_is (λ g. g ≡ cli.Memory) c.plain-in-Err-lines_of.result cli.Memory c.plain-in-Err-lines_of.ensures.fault c.plain-in-Err-lines_of.ensures.notes refl)
+returns-in-Err-lines_of-clause-fault c = inl (refused.Memory, made_may c.args.options.now c.args.register (readings c.args.texts.now) _ _ _ c.in-Ok.ensures.ok, plain_is (λ g. g ≡ cli.Memory) c.plain-in-Err-lines_of.result cli.Memory c.plain-in-Err-lines_of.ensures.fault c.plain-in-Err-lines_of.ensures.notes refl)

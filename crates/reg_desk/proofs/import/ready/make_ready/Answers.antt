@@ -11,7 +11,7 @@ returns-in-Err-clause-fault g c = λ was same.
     let old = map g.F.Source.state c.args.files.now in
     let new = map g.F.Source.state c.read_files.new.files in
     let u = c.plain in
-    unread_in c.args.order.now c.args.first c.args.loaded old new u.result (g.T.Store.admission was)
+    unread_in c.args.options.now c.args.first c.args.loaded old new u.result (g.T.Store.admission was)
     (plain_is (AreUnread c.args.first old new) u.result c.in-Err.fault u.ensures.fault u.ensures.notes c.in-Err.ensures.fault)
 
 pub returns-in-Err-admit-clause-fault : goal.returns-in-Err-admit-clause-fault
@@ -19,7 +19,7 @@ returns-in-Err-admit-clause-fault g c = λ was same.
     let old = map g.F.Source.state c.args.files.now in
     let new = map g.F.Source.state c.read_files.new.files in
     let u = c.plain-in-Err-admit in
-    barred_in c.args.order.now c.args.first c.args.loaded old new u.result (g.T.Store.admission was)
+    barred_in c.args.options.now c.args.first c.args.loaded old new u.result (g.T.Store.admission was)
     (bytes_of c.in-Ok.bytes.items) c.in-Ok.ensures.give c.in-Err-admit.fault u.ensures.fault u.ensures.notes (c.in-Err-admit.ensures.bars was same)
 
 pub returns-in-Ok-made-clause-ready : goal.returns-in-Ok-made-clause-ready
@@ -27,8 +27,8 @@ returns-in-Ok-made-clause-ready g c = λ was same.
     let old = map g.F.Source.state c.args.files.now in
     let new = map g.F.Source.state c.read_files.new.files in
     let r = c.in-Ok-made.ready in
-    let made = subst (λ (b : List (Vec ℕ _)). Makes c.args.order.now c.args.first c.in-Ok-admit.register (bytes_of b) r.register r.lines.items r.passed) c.deref.ensures.value c.in-Ok-made.ensures.made in
-    works_on (g.T.Store.admission was) (λ z. IsReady c.args.order.now c.args.first z old new r.register r.lines.items r.passed) c.args.loaded c.in-Ok-admit.register
+    let made = subst (λ (b : List (Vec ℕ _)). Makes c.args.options.now c.args.first c.in-Ok-admit.register (bytes_of b) r.register r.lines.items r.passed) c.deref.ensures.value c.in-Ok-made.ensures.made in
+    works_on (g.T.Store.admission was) (λ z. IsReady c.args.options.now c.args.first z old new r.register r.lines.items r.passed) c.args.loaded c.in-Ok-admit.register
     (c.in-Ok-admit.ensures.admits was same) (bytes_of c.in-Ok.bytes.items, c.in-Ok.ensures.give, made)
 
 pub returns-clause-fault : goal.returns-clause-fault
@@ -36,6 +36,6 @@ returns-clause-fault g c = λ was same.
     let old = map g.F.Source.state c.args.files.now in
     let new = map g.F.Source.state c.read_files.new.files in
     let u = c.in-Err-made.why in
-    let unmade = subst (λ (b : List (Vec ℕ _)). IsUnmade c.args.order.now c.args.first c.in-Ok-admit.register (bytes_of b) u) c.deref.ensures.value c.in-Err-made.ensures.fault in
-    unmade_in c.args.order.now c.args.first c.args.loaded old new u (g.T.Store.admission was) c.in-Ok-admit.register (bytes_of c.in-Ok.bytes.items) c.in-Ok.ensures.give
+    let unmade = subst (λ (b : List (Vec ℕ _)). IsUnmade c.args.options.now c.args.first c.in-Ok-admit.register (bytes_of b) u) c.deref.ensures.value c.in-Err-made.ensures.fault in
+    unmade_in c.args.options.now c.args.first c.args.loaded old new u (g.T.Store.admission was) c.in-Ok-admit.register (bytes_of c.in-Ok.bytes.items) c.in-Ok.ensures.give
     (c.in-Ok-admit.ensures.admits was same) unmade

@@ -7,7 +7,7 @@ use Rattle.reg_query.proofs.figures.register.amiss_of.Goals as goal
 
 pub returns : goal.returns
 returns c =
-    let made = c.in_ok-rows.ensures in
+    let made = c.in_ok-rows.ensures.rows in
     record {
       duplicates = subst (λ (rs : List Row). CountsAmiss Duplicates rs c.in_ok-duplicates.duplicates) (ap (map row_seen) c.deref.ensures.value ∙ made) c.in_ok-duplicates.ensures;
       dangling = subst (λ (rs : List Row). CountsAmiss Dangling rs c.in_ok-dangling.dangling) (ap (map row_seen) c.deref-2.ensures.value ∙ made) c.in_ok-dangling.ensures;

@@ -1,4 +1,4 @@
-use Rattle.std.proofs.Common.{◌≡◌, ◌-◌, ◌<◌, ◌≤◌, ℕ, true, false, List, take, drop, ap, sym, subst, ◌∙◌, arith}
+use Rattle.std.proofs.Common.{◌-◌, ◌<◌, ◌≤◌, ℕ, true, false, List, take, drop, sym, subst, ◌∙◌, arith}
 use Rattle.wkt_explain.specs.Position.{behind_mark}
 use Rattle.wkt_explain.specs.Walk.{IsSpot}
 use Rattle.wkt_explain.proofs.MarkLemmas.{spot_kept, spot_within, spot_cut}

@@ -1,0 +1,9 @@
+use Rattle.std.proofs.Common.{false}
+use Rattle.byte_system.specs.System.{calls}
+use Rattle.byte_place.proofs.Courses.{begins}
+use Rattle.byte_place.proofs.call_place.CallPlace.new.Goals as goal
+
+pub invariant_of-result : goal.invariant_of-result
+invariant_of-result g c =
+    let a = c.args in
+    record { course = ∣ begins a.out.now a.beside.now c.empty.result.bytes false (calls (g.S.System.state a.system)) c.empty.ensures c.requires ∣₁ }

@@ -1,0 +1,45 @@
+//! What answers of the system mean.
+
+use crate::system::{MakeFault, Mode, RenameFault, There};
+use std::fs::Metadata;
+use std::io::ErrorKind;
+use std::os::unix::fs::MetadataExt;
+
+/// What is there; none if it has no name any more, as the mount of a file that was replaced outside.
+pub(crate) fn there_is(there: &Metadata) -> Option<There> {
+    if !there.is_file() {
+        return Some(There::Other);
+    }
+    match there.nlink() {
+        0 => None,
+        1 => Some(There::Sole),
+        _ => Some(There::Shared),
+    }
+}
+
+/// The permissions of a new file.
+pub(crate) fn permissions(mode: Mode) -> u32 {
+    match mode {
+        Mode::Private => 0o600,
+        Mode::Usual => 0o666,
+    }
+}
+
+/// Why no file was made.
+pub(crate) fn make_fault(error: ErrorKind) -> MakeFault {
+    match error {
+        ErrorKind::AlreadyExists => MakeFault::Exists,
+        ErrorKind::PermissionDenied | ErrorKind::ReadOnlyFilesystem | ErrorKind::InvalidFilename =>
+            MakeFault::Forbidden,
+        _ => MakeFault::NotMade,
+    }
+}
+
+/// Why a file was not renamed. One that is a mount of its own is not refused: whoever replaces it outside would not see what is
+/// written to it.
+pub(crate) fn rename_fault(error: ErrorKind) -> RenameFault {
+    match error {
+        ErrorKind::PermissionDenied | ErrorKind::CrossesDevices => RenameFault::Refused,
+        _ => RenameFault::NotRenamed,
+    }
+}

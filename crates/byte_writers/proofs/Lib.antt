@@ -1,5 +1,0 @@
-pub mod Kept
-pub mod Left
-pub mod Numbers
-pub mod Desks
-pub mod StepLemmas

@@ -1,4 +1,0 @@
-pub mod Path
-pub mod Writers
-pub mod Desk
-pub mod Steps

@@ -1,0 +1,10 @@
+//! How a command ends: what is told of it on standard error, and its exit status.
+#![tactic(auto)]
+
+mod outcome;
+mod reporting;
+mod teller;
+
+pub use outcome::{Done, NotDone, Outcome, all_done, compared, difference, ended};
+pub use reporting::report;
+pub use teller::Teller;

@@ -1,3 +1,0 @@
-pub mod Compare
-pub mod Differs
-pub mod With

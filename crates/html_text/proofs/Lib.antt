@@ -1,7 +1,0 @@
-pub mod EscapedLemmas
-pub mod MarkLemmas
-mod HiddenLemmas
-mod CharacterLemmas
-pub mod PlaceLemmas
-pub mod JoinLemmas
-pub mod ShortLemmas

@@ -1,5 +1,0 @@
-use Rattle.html_text.proofs.MarkLemmas.{none_marked}
-use Rattle.html_text.proofs.laws.nothing_else_is_marked.Goals as goal
-
-pub returns : goal.returns
-returns c = none_marked

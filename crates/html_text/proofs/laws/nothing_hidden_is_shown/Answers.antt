@@ -1,6 +1,0 @@
-use Rattle.html_text.proofs.HiddenLemmas.{nothing_hidden}
-use Rattle.html_text.proofs.CharacterLemmas.{no_character}
-use Rattle.html_text.proofs.laws.nothing_hidden_is_shown.Goals as goal
-
-pub returns : goal.returns
-returns c = record { bytes = nothing_hidden; characters = no_character }

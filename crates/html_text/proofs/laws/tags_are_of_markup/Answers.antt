@@ -1,6 +1,0 @@
-use Rattle.html_text.specs.Places.{Content}
-use Rattle.html_text.proofs.PlaceLemmas.{same_tags}
-use Rattle.html_text.proofs.laws.tags_are_of_markup.Goals as goal
-
-pub returns : goal.returns
-returns c = λ pieces last e. (same_tags pieces Content last e).0

@@ -1,5 +1,0 @@
-use Rattle.html_text.proofs.EscapedLemmas.{inert, read}
-use Rattle.html_text.proofs.laws.texts_stay_texts.Goals as goal
-
-pub returns : goal.returns
-returns c = record { inert = inert; read = read }

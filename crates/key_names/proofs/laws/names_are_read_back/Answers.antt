@@ -1,5 +1,0 @@
-use Rattle.key_names.proofs.NameLemmas.{authority_read, code_read}
-use Rattle.key_names.proofs.laws.names_are_read_back.Goals as goal
-
-pub returns : goal.returns
-returns c = record { authority = authority_read; code = code_read }

@@ -1,0 +1,11 @@
+use Rattle.std.proofs.Common.{◌≡◌, ◌++◌, length, map}
+use Rattle.std.specs.List.{flat_map}
+use Rattle.reg_report.specs.Conflicts.{Contested}
+use Rattle.reg_report.specs.Contenders.{conflict_seen}
+use Rattle.reg_export.proofs.graph.push_conflicts.Given as goal
+
+abbrev pub invariant-loop-one : goal.invariant-loop-one
+invariant-loop-one l = l.ids.items ++ flat_map (λ (c : Contested). c.entries) (map conflict_seen l.rest) ≡ l.initial.ids.items ++ flat_map (λ (c : Contested). c.entries) (map conflict_seen l.conflicts)
+
+abbrev pub decreases-loop-one : goal.decreases-loop-one
+decreases-loop-one l = length l.rest

@@ -1,0 +1,16 @@
+pub mod Choice
+pub mod Chosen
+pub mod Noted
+pub mod Kept
+pub mod Stopped
+pub mod KeyNames
+pub mod KeyFiles
+pub mod Twins
+pub mod IntoFiles
+pub mod Into
+pub mod Titles
+pub mod Geojson
+pub mod ProjSql
+pub mod Graph
+pub mod Handed
+pub mod Sheet

@@ -1,6 +1,0 @@
-mod EachLemmas
-mod AmongLemmas
-mod DrawnLemmas
-mod ReadLemmas
-mod SheetLemmas
-mod LabelLemmas

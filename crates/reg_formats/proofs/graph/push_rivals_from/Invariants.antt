@@ -1,9 +1,0 @@
-use Rattle.std.proofs.Common.{◌≡◌, ◌++◌, length}
-use Rattle.reg_formats.specs.Graph.{rivals_from}
-use Rattle.reg_formats.proofs.graph.push_rivals_from.Given as goal
-
-abbrev pub invariant-loop-one : goal.invariant-loop-one
-invariant-loop-one l = l.text.items ++ rivals_from l.fn.first l.rest ≡ l.initial.text.items ++ rivals_from l.fn.first l.entries
-
-abbrev pub decreases-loop-one : goal.decreases-loop-one
-decreases-loop-one l = length l.rest

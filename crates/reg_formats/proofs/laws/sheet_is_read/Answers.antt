@@ -1,5 +1,0 @@
-use Rattle.reg_formats.proofs.SheetLemmas.{keys_read}
-use Rattle.reg_formats.proofs.laws.sheet_is_read.Goals as goal
-
-pub returns : goal.returns
-returns c = keys_read c.rows_are_read.ensures

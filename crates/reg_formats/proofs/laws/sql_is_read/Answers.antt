@@ -1,5 +1,0 @@
-use Rattle.reg_formats.proofs.ReadLemmas.{proj_sql_read}
-use Rattle.reg_formats.proofs.laws.sql_is_read.Goals as goal
-
-pub returns : goal.returns
-returns c = proj_sql_read

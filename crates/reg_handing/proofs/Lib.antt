@@ -1,3 +1,0 @@
-mod TextLemmas
-pub mod NotedLemmas
-pub mod ChosenLemmas

@@ -1,3 +1,0 @@
-mod KeyedLemmas
-mod MeaningLemmas
-mod EachLemmas

@@ -1,6 +1,0 @@
-use Rattle.std.proofs.Common.{◌∙◌}
-use Rattle.reg_log.proofs.Searches.{among}
-use Rattle.reg_log.proofs.asked.is_among.Goals as goal
-
-pub returns : goal.returns
-returns c = c.is_ok.ensures.value ∙ among c.args.ids.now c.args.id c.binary_search.result c.requires c.binary_search.ensures.bound c.binary_search.ensures.position

@@ -1,4 +1,0 @@
-pub mod DotLemmas
-pub mod JsonLemmas
-pub mod JsonDocuments
-pub mod SqlLemmas

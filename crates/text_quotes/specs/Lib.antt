@@ -1,6 +1,0 @@
-pub mod Scanned
-pub mod Json
-pub mod Dot
-pub mod Graph
-pub mod Sql
-pub mod Statements
