@@ -1,6 +1,6 @@
 -- The texts of rows, gathered one row after another.
-use Rattle.std.proofs.Common.{◌≡◌, ◌↔◌, ◌<◌, ◌+◌, ℕ, nat_eq, nat_lt, Bool, true, false, not, ◌&&◌, ◌||◌, cond, IsTrue, List, [], ◌∷◌, ◌++◌, refl, sym, ap, ◌∙◌, subst, inl, inr, arith}
-use Rattle.std.proofs.lemmas.Bool.{true≢false, ltb-true, lt-ltb}
+use Rattle.std.proofs.Common.{◌≡◌, ◌↔◌, ◌+◌, ℕ, nat_eq, nat_lt, Bool, true, false, not, ◌&&◌, ◌||◌, cond, IsTrue, List, [], ◌∷◌, ◌++◌, refl, sym, ap, ◌∙◌, subst, inl, inr, arith}
+use Rattle.std.proofs.lemmas.Bool.{ltb-true, lt-ltb}
 use Rattle.std.proofs.lemmas.Bool.Decides.{nat_tests}
 use Rattle.std.proofs.lemmas.List.Sums.{sum_by_push}
 use Rattle.std.specs.List.{count_by, list_any}
@@ -10,7 +10,7 @@ use Rattle.std.specs.Ordering.{nat_cmp, is_eq}
 use Rattle.reg_op.specs.Rows.{Row}
 use Rattle.reg_report.specs.Exports.{is_retired}
 use Rattle.reg_disorder.specs.Disorders.{stands_with, IsDuplicate}
-use Rattle.reg_disorder.specs.Texts.{TextSet, has_text, is_text, PutsText, PutsRow, HasSome, HasSeveral}
+use Rattle.reg_disorder.specs.Texts.{TextSet, has_text, is_text, PutsRow, HasSome, HasSeveral}
 
 -- ---- counts
 
@@ -88,7 +88,3 @@ then_again s text t seen = by (is_text text t) refl
     by : (b : Bool) → is_text text t ≡ b → (b && has_text s t) ≡ b
     by true e = subst (λ u. has_text s u ≡ true) (same_of text t e) seen
     by false e = refl
-
-pub not_not : (b : Bool) → not b ≡ false → b ≡ true
-not_not true h = refl
-not_not false h = absurd (true≢false h)

@@ -1,4 +1,5 @@
 pub mod SortLemmas
+pub mod WindowLemmas
 pub mod PairLemmas
 pub mod AwaitedLemmas
 pub mod SheetLemmas

@@ -1,21 +1,19 @@
 -- The entries that may be retired: gathered, sorted, and selected by key.
-use Rattle.std.proofs.Common.{◌≡◌, ℕ, ◌+◌, ◌<◌, ◌≤◌, Bool, true, false, not, ◌&&◌, List, [], ◌∷◌, ◌++◌, map, filter, length, get_or, drop, refl, sym, ap, ◌∙◌, subst, inl, inr, append_assoc, append-nil, cond, arith}
+use Rattle.std.proofs.Common.{◌≡◌, ◌+◌, Bool, true, false, not, ◌&&◌, List, [], ◌∷◌, ◌++◌, map, filter, refl, sym, ap, ◌∙◌, subst, inl, inr, append_assoc, append-nil, cond}
 use Rattle.std.specs.Prelude.{Contains}
-use Rattle.std.specs.List.Sorted.{IsSorted, IsStable, IsPermutation, IsPartitionedBy, ties}
+use Rattle.std.specs.List.Sorted.{IsStable, IsPermutation, ties}
 use Rattle.std.specs.Cmp.{IsStrictWeakOrder, Equal-is, tied_itself}
-use Rattle.std.specs.Ordering.{is_lt, is_eq, ordering_reverse}
-use Rattle.std.specs.declared.cmp.Ordering.{Ordering}
-use Rattle.std.specs.declared.cmp.Ordering.TheVariants.{Less, Equal, Greater}
-use Rattle.std.proofs.lemmas.Bool.{true≢false, true_from_ne_false, not-true}
-use Rattle.std.proofs.lemmas.List.{get_or-drop, length-drop}
+use Rattle.std.specs.Ordering.{is_lt, is_eq}
+use Rattle.std.proofs.lemmas.Bool.{true≢false}
 use Rattle.std.proofs.lemmas.List.Elements.{filter_agree}
-use Rattle.std.proofs.lemmas.List.Sorted.{ranks_by, sorted_far, Contains-permutation, IsPermutation-sym}
+use Rattle.std.proofs.lemmas.List.Sorted.{ranks_by, Contains-permutation, IsPermutation-sym}
 use Rattle.reg_op.specs.Ids.{Id}
 use Rattle.reg_op.specs.Rows.{Row}
 use Rattle.reg_report.specs.Conflicts.{KeyBytes, key_cmp, HasKey}
 use Rattle.reg_report.specs.Keys.{key_bytes}
 use Rattle.reg_report.proofs.ConflictLemmas.{key_total, key_exact, in_head, in_tail}
 use Rattle.reg_report.proofs.ContenderLemmas.{one_key}
+use Rattle.reg_report.proofs.WindowLemmas.{tied_is}
 use Rattle.reg_settle.specs.Settling.{Picks, IsRival}
 use Rattle.reg_settle.specs.declared.rival.Rival.{Rival}
 use Rattle.reg_settle.specs.Keeping.{entry_of, is_of_key, rival_cmp, MayGo, AddsRival, AreRivals}
@@ -57,32 +55,6 @@ key_itself a b e = subst (λ k. is_eq (key_cmp a k) ≡ true) e (ap is_eq (tied_
 pub by_rival : IsStrictWeakOrder (λ (a b : Rival). is_lt (rival_cmp a b))
 by_rival = ranks_by key_total (λ (c : Rival). key_bytes c.key)
 
-no_earlier : (cs : List Rival) → IsSorted rival_cmp cs → (i j : ℕ) (d : Rival) → i ≤ j → j < length cs → is_lt (rival_cmp (get_or cs j d) (get_or cs i d)) ≡ false
-no_earlier cs up = sorted_far (λ a b. is_lt (rival_cmp a b)) by_rival cs up
-
-lt_key : IsStrictWeakOrder (λ a b. is_lt (key_cmp a b))
-lt_key = ranks_by key_total (λ (k : KeyBytes). k)
-
-pub below_parted : (k : KeyBytes) (cs : List Rival) → IsSorted rival_cmp cs → IsPartitionedBy (λ (c : Rival). is_lt (key_cmp (key_bytes c.key) k)) cs
-below_parted k cs up i j d h l b =
-    true_from_ne_false _ (λ n. true≢false (sym b ∙ lt_key.chain (key_bytes (get_or cs j d).key) (key_bytes (get_or cs i d).key) k (no_earlier cs up i j d h l) n))
-
-pub up_to_parted : (k : KeyBytes) (cs : List Rival) (low : ℕ) → IsSorted rival_cmp cs → IsPartitionedBy (λ (c : Rival). not (is_lt (key_cmp k (key_bytes c.key)))) (drop low cs)
-up_to_parted k cs low up i j d h l b =
-    subst (λ (c : Rival). not (is_lt (key_cmp k (key_bytes c.key))) ≡ true) (sym (get_or-drop low cs i d))
-    (ap not (lt_key.chain k (key_bytes (get_or cs (low + j) d).key) (key_bytes (get_or cs (low + i) d).key)
-    (not-true _ (subst (λ (c : Rival). not (is_lt (key_cmp k (key_bytes c.key))) ≡ true) (get_or-drop low cs j d) b))
-    (no_earlier cs up (low + i) (low + j) d (omega arith) (omega (arith, length-drop low cs)))))
-
--- keys are equal exactly if neither is less than the other
-pub tied_is : (a b : KeyBytes) → is_eq (key_cmp a b) ≡ (not (is_lt (key_cmp b a)) && not (is_lt (key_cmp a b)))
-tied_is a b = by (key_cmp a b) refl
-  where
-    by : (o : Ordering) → key_cmp a b ≡ o → is_eq (key_cmp a b) ≡ (not (is_lt (key_cmp b a)) && not (is_lt (key_cmp a b)))
-    by Less e = (λ j. is_eq (e j)) ∙ sym (λ j. not (is_lt ((key_total.antisymm b a ∙ ap ordering_reverse e) j)) && not (is_lt (e j)))
-    by Equal e = (λ j. is_eq (e j)) ∙ sym (λ j. not (is_lt ((key_total.antisymm b a ∙ ap ordering_reverse e) j)) && not (is_lt (e j)))
-    by Greater e = (λ j. is_eq (e j)) ∙ sym (λ j. not (is_lt ((key_total.antisymm b a ∙ ap ordering_reverse e) j)) && not (is_lt (e j)))
-
 swapped_and : (a b : Bool) → (a && b) ≡ (b && a)
 swapped_and true true = refl
 swapped_and true false = refl
@@ -90,7 +62,7 @@ swapped_and false true = refl
 swapped_and false false = refl
 
 ties_are : (x c : Rival) → ties (λ (a b : Rival). is_lt (rival_cmp a b)) x c ≡ is_of_key (key_bytes x.key) c
-ties_are x c = swapped_and (not (is_lt (rival_cmp x c))) (not (is_lt (rival_cmp c x))) ∙ sym (tied_is (key_bytes x.key) (key_bytes c.key))
+ties_are x c = swapped_and (not (is_lt (rival_cmp x c))) (not (is_lt (rival_cmp c x))) ∙ sym (tied_is key_cmp key_total (key_bytes x.key) (key_bytes c.key))
 
 pub in_order_is : (cs made : List Rival) → IsStable rival_cmp cs made → (x : Rival) → filter (is_of_key (key_bytes x.key)) made ≡ filter (is_of_key (key_bytes x.key)) cs
 in_order_is cs made stable x =

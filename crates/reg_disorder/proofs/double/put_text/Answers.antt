@@ -1,7 +1,7 @@
-use Rattle.std.proofs.Common.{◌||◌, not, sym, ap, ◌∙◌}
-use Rattle.std.proofs.lemmas.Bool.{not-true}
+use Rattle.std.proofs.Common.{◌||◌, sym, ap, ◌∙◌}
+use Rattle.std.proofs.lemmas.Bool.{not-true, not-false}
 use Rattle.reg_disorder.specs.Texts.{has_text, is_text}
-use Rattle.reg_disorder.proofs.TextLemmas.{as_key, cond_or, not_again, then_again, not_not}
+use Rattle.reg_disorder.proofs.TextLemmas.{as_key, cond_or, not_again, then_again}
 use Rattle.reg_disorder.proofs.double.put_text.Goals as goal
 
 pub returns-then-is_new : goal.returns-then-is_new
@@ -16,5 +16,5 @@ returns c = record {
   again = λ t.
       c.in_ok-insert.ensures.updates.0 (as_key t)
       ∙ cond_or (is_text c.args.text.now t) (has_text c.args.several.now t)
-      ∙ sym (ap (λ b. b || has_text c.args.several.now t) (then_again c.args.seen.now c.args.text.now t (not_not _ (sym c.in_ok-is_new.ensures.added ∙ c.if-is_new.false))));
+      ∙ sym (ap (λ b. b || has_text c.args.several.now t) (then_again c.args.seen.now c.args.text.now t (not-false _ (sym c.in_ok-is_new.ensures.added ∙ c.if-is_new.false))));
 }
