@@ -1,7 +1,7 @@
 use Rattle.std.proofs.Common.{arith}
 use Rattle.wkt_crs.proofs.FromText.{seen_fault, seen_only}
 use Rattle.wkt_crs.proofs.Recognized as recognized
-use Rattle.wkt_crs.proofs.definition.Definition.from_canonical.Goals as goal
+use Rattle.wkt_crs.proofs.definition.Definition.from_block.Goals as goal
 
 pub returns-in_default-clause-slot : goal.returns-in_default-clause-slot
 returns-in_default-clause-slot c = λ f short first. c.read_canonical.ensures.slot f first
