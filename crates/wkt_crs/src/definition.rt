@@ -174,7 +174,7 @@ impl Definition {
         let Some(seen) = recognize(bytes) else {
             return read_canonical(alloc, bytes);
         };
-        of_seen(alloc, block, bytes, behind, seen)
+        seen_in_block(alloc, block, bytes, behind, seen)
     }
 
     /// The definition of the value that the text spells. No value is built if the text, or its condensed form, is recognized as
@@ -189,11 +189,11 @@ impl Definition {
         ensures slot { (f : SlotFault) → FirstSlot text.now f → result ≡ Err (fault.Read (refused.Slot f)) }
     {
         if let Some(seen) = seen_in(text) {
-            return of_seen(alloc, &Bytes::new(), text, 0, seen);
+            return of_seen(alloc, text, seen);
         }
         if let Some(condensed) = condense(alloc, text) {
             if let Some(seen) = seen_in(&condensed) {
-                return of_seen(alloc, &Bytes::new(), &condensed, 0, seen);
+                return of_seen(alloc, &condensed, seen);
             }
         }
         match read_crs(alloc, text) {
@@ -264,8 +264,18 @@ fn seen_in(text: &[u8]) -> Option<Seen<'_>>
     recognize(text)
 }
 
-// The definition with these bytes and findings, if there is an identifier.
-fn of_seen(
+// The definition with a copy of these bytes and with these findings, if there is an identifier.
+fn of_seen(alloc: Global, bytes: &[u8], seen: Seen<'_>) -> Result<Definition, DefinitionFault>
+    requires { (length bytes.now ≤ 65536) × IsCanonicalOf seen bytes.now }
+    ensures ok { IfOk result (λ d. d ≡ bytes.now) }
+    ensures is { IfOk result IsDefinition }
+    ensures fault { IfErr result (IsSeenFault bytes.now) }
+{
+    seen_in_block(alloc, &Bytes::new(), bytes, 0, seen)
+}
+
+// The same, as a part of the block if the bytes stand there with `behind` bytes after them.
+fn seen_in_block(
     alloc: Global,
     block: &Bytes,
     bytes: &[u8],

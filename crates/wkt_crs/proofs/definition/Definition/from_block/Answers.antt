@@ -11,10 +11,10 @@ returns-in_default-clause-slot c = λ f short first. c.read_canonical.ensures.sl
 pub returns-clause-fault : goal.returns-clause-fault
 returns-clause-fault c =
     let short = c.if-bytes-gt-MAX.false in
-    seen_fault c.of_seen.result c.args.bytes.now (omega (arith, short)) c.of_seen.ensures.fault
+    seen_fault c.seen_in_block.result c.args.bytes.now (omega (arith, short)) c.seen_in_block.ensures.fault
 
 pub returns-clause-only : goal.returns-clause-only
-returns-clause-only c = λ d. seen_only c.of_seen.result c.args.bytes.now c.of_seen.ensures.ok c.of_seen.ensures.fault d
+returns-clause-only c = λ d. seen_only c.seen_in_block.result c.args.bytes.now c.seen_in_block.ensures.ok c.seen_in_block.ensures.fault d
 
 pub returns-clause-text : goal.returns-clause-text
 returns-clause-text c = λ f short first. absurd (recognized.no_text_fault f c.in-Some.ensures short first)

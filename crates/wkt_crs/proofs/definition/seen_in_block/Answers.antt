@@ -1,5 +1,5 @@
 use Rattle.wkt_crs.proofs.Recognized as recognized
-use Rattle.wkt_crs.proofs.definition.of_seen.Goals as goal
+use Rattle.wkt_crs.proofs.definition.seen_in_block.Goals as goal
 
 pub returns-in_default-clause-fault : goal.returns-in_default-clause-fault
 returns-in_default-clause-fault c =

@@ -3,7 +3,7 @@ use Rattle.reg_file.specs.Readers.{StopsIn}
 use Rattle.reg_file.specs.Reading.{version_in, piece}
 use Rattle.reg_file.proofs.FieldLemmas.{IsBytes}
 use Rattle.reg_file.proofs.PieceLemmas.{read_holds, read_is_held, held_or_fault}
-use Rattle.reg_file.proofs.pieces.read_piece_bytes_beside.Goals as goal
+use Rattle.reg_file.proofs.pieces.read_piece_within.Goals as goal
 
 pub returns-in-Ok-clause-found : goal.returns-in-Ok-clause-found
 returns-in-Ok-clause-found c =
