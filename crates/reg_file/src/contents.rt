@@ -91,11 +91,12 @@ pub fn kept_of(
     ensures ok { IfOk result (λ r. ReadsKept version basis.now bytes.now r) }
     ensures err { IfErr result (StopsIn (seen_and_kept version basis.now) bytes.now) }
 {
-    let (ops, places, seen, rest) =
-        match seen_and_ops_of(alloc, block, known, version, basis, bytes) {
-            Ok(read) => read,
-            Err(stop) => return Err(stop),
-        };
+    let (ops, places, seen, rest) = match seen_and_ops_of(
+        alloc, block, known, version, basis, bytes,
+    ) {
+        Ok(read) => read,
+        Err(stop) => return Err(stop),
+    };
     match register_of(alloc, ops, seen, &places, rest) {
         Ok(register) => Ok(register),
         Err(stop) => Err(stop),

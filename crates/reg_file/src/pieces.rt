@@ -68,11 +68,12 @@ fn based_of(
         Ok(read) => read,
         Err(stop) => return Err(stop),
     };
-    let (ops, places, seen, rest) =
-        match seen_and_ops_of(alloc, block, known, version, &basis, rest) {
-            Ok(read) => read,
-            Err(stop) => return Err(stop),
-        };
+    let (ops, places, seen, rest) = match seen_and_ops_of(
+        alloc, block, known, version, &basis, rest,
+    ) {
+        Ok(read) => read,
+        Err(stop) => return Err(stop),
+    };
     match piece_of(alloc, ops, basis, seen, &places, rest) {
         Ok(piece) => Ok(piece),
         Err(stop) => Err(stop),
@@ -100,12 +101,7 @@ fn read_in(
 }
 
 // A whole file, in the version that the bytes state.
-fn read_all(
-    alloc: Global,
-    block: &Bytes,
-    known: &[Register],
-    bytes: &[u8],
-) -> Result<Piece, Stop>
+fn read_all(alloc: Global, block: &Bytes, known: &[Register], bytes: &[u8]) -> Result<Piece, Stop>
     ensures ok { IfOk result (λ p. ReadsPiece (version_in bytes.now) bytes.now p) }
     ensures err { IfErr result (StopsIn (piece (version_in bytes.now)) bytes.now) }
 {

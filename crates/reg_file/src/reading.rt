@@ -88,11 +88,7 @@ pub fn read_within(
 }
 
 // The same for a file that its definitions may share.
-fn read_owned(
-    alloc: Global,
-    known: &[Register],
-    bytes: Vec<u8>,
-) -> Result<Register, ReadFileFault>
+fn read_owned(alloc: Global, known: &[Register], bytes: Vec<u8>) -> Result<Register, ReadFileFault>
     ensures found { IfOk result (λ r. ReadsAs bytes.items r) }
     ensures fault { IfErr result (IsReadFault bytes.items) }
 {

@@ -22,7 +22,12 @@ fn part_of(block: &Bytes, bytes: &[u8], behind: usize) -> Option<Bytes>
 }
 
 /// The text as a part of the block, otherwise a copy of it.
-pub fn text_in(alloc: Global, block: &Bytes, bytes: &[u8], behind: usize) -> Result<Bytes, AllocError>
+pub fn text_in(
+    alloc: Global,
+    block: &Bytes,
+    bytes: &[u8],
+    behind: usize,
+) -> Result<Bytes, AllocError>
     ensures { IfOk result (λ text. text ≡ bytes.now) }
 {
     match part_of(block, bytes, behind) {
