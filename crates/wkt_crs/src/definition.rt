@@ -23,7 +23,7 @@ use std::alloc::{AllocError, Global};
 use std::fmt;
 use std::marker::Model;
 use std::rc::Rc;
-use wkt_canonical::{Identifier, Seen, recognize};
+use wkt_canonical::{Identifier, SeenSystem, recognize};
 use wkt_write::condense;
 
 /// Why a reference system, or a text, is not a definition.
@@ -255,7 +255,7 @@ fn has_identifier(crs: &Crs) -> bool
 }
 
 // The findings for a text that is recognized as canonical and not too long for a definition.
-fn seen_in(text: &[u8]) -> Option<Seen<'_>>
+fn seen_in(text: &[u8]) -> Option<SeenSystem<'_>>
     ensures { IfSome result (λ seen. (length text.now ≤ 65536) × IsCanonicalOf seen text.now) }
 {
     if text.len() > Definition::MAX {
@@ -265,7 +265,7 @@ fn seen_in(text: &[u8]) -> Option<Seen<'_>>
 }
 
 // The definition with a copy of these bytes and with these findings, if there is an identifier.
-fn of_seen(alloc: Global, bytes: &[u8], seen: Seen<'_>) -> Result<Definition, DefinitionFault>
+fn of_seen(alloc: Global, bytes: &[u8], seen: SeenSystem<'_>) -> Result<Definition, DefinitionFault>
     requires { (length bytes.now ≤ 65536) × IsCanonicalOf seen bytes.now }
     ensures ok { IfOk result (λ d. d ≡ bytes.now) }
     ensures is { IfOk result IsDefinition }
@@ -280,7 +280,7 @@ fn seen_in_block(
     block: &Bytes,
     bytes: &[u8],
     behind: usize,
-    seen: Seen<'_>,
+    seen: SeenSystem<'_>,
 ) -> Result<Definition, DefinitionFault>
     requires { (length bytes.now ≤ 65536) × IsCanonicalOf seen bytes.now }
     ensures ok { IfOk result (λ d. d ≡ bytes.now) }
@@ -302,7 +302,7 @@ fn recognized(
     block: &Bytes,
     bytes: &[u8],
     behind: usize,
-    seen: Seen<'_>,
+    seen: SeenSystem<'_>,
     identifier: Identifier<'_>,
 ) -> Result<Definition, AllocError>
     requires { (length bytes.now ≤ 65536) × IsCanonicalOf seen bytes.now × (seen.identifier ≡ Some identifier) }
