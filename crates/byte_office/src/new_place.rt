@@ -5,7 +5,7 @@ ghost use Rattle.byte_io.specs.Device.{target_of};
 ghost use Rattle.byte_out.specs.Place.{untold};
 
 use byte_io::{DeviceFault, StdFile, WriteFault, write_all};
-use byte_out::{CompareFault, MakeFault, Place, PutFault};
+use byte_out::{Chunks, CompareFault, MakeFault, Place, PutFault};
 use std::fs::{self, OpenFile, OpenOptions};
 use std::io;
 use std::rt::Files;
@@ -76,7 +76,11 @@ impl<R: Files> Place for NewPlace<'_, R> {
         Ok(())
     }
 
-    fn put(&mut self, _read: Option<&[u8]>, _bytes: &[u8]) -> Result<(), PutFault> {
+    fn put<C: Chunks>(
+        &mut self,
+        _read: Option<&[u8]>,
+        _content: &mut C,
+    ) -> Result<(), PutFault> {
         // It has its name already.
         if self.out.file.is_some() {
             self.out.file = None;

@@ -4,7 +4,7 @@ ghost use Rattle.std.specs.Prelude.{OnOk, IfErr, option_map};
 ghost use Rattle.byte_office.specs.Noting.{Notes, NotesIf, IsUnnoted, IsUnnotedIf};
 
 use crate::fault::NoteFault;
-use byte_out::{Place, PutFault};
+use byte_out::{InOne, Place, PutFault};
 
 /// Replaces the office file by one with this text. Its new file was made before: it keeps other commands of the office away. If
 /// it does not get the name, it is removed.
@@ -20,7 +20,7 @@ pub fn put_office<P: Place>(place: &mut P, text: &[u8]) -> Result<(), NoteFault>
         place.remove();
         return Err(NoteFault::WriteFailed(text.len()));
     }
-    match place.put(None, text) {
+    match place.put(None, &mut InOne::new(text)) {
         Ok(()) => {}
         Err(PutFault::NotOpened) => {
             place.remove();

@@ -7,6 +7,7 @@ ghost use Rattle.byte_out.specs.Own.{IsOwnPath, marked, file_of};
 ghost use Rattle.byte_out.specs.Place.{untold};
 
 use crate::beside::remove_own;
+use crate::chunks::Chunks;
 use crate::fault::{CompareFault, InUse, MakeFault, PutFault};
 use crate::lock::Lockable;
 use crate::place::Place;
@@ -264,16 +265,16 @@ where
         }
     }
 
-    fn put(&mut self, read: Option<&[u8]>, bytes: &[u8]) -> Result<(), PutFault> {
+    fn put<C: Chunks>(&mut self, read: Option<&[u8]>, content: &mut C) -> Result<(), PutFault> {
         let real = file_of(&self.led, self.path);
         let put = match self.out.file.take() {
             None => Err(PutFault::NotOpened),
             Some(file) if self.is_beside => {
-                let put = put_beside(self.rt, &file, &self.beside, real, read, bytes);
+                let put = put_beside(self.rt, &file, &self.beside, real, read, content);
                 self.out.file = Some(file);
                 put
             }
-            Some(file) => write_within(file, bytes),
+            Some(file) => write_within(file, content),
         };
         match put {
             Ok(()) => Ok(()),

@@ -3,6 +3,7 @@
 ghost use Rattle.std.specs.Prelude.{◌≡◌, ◌↔◌, None, Some, true, false, option_map, IsTrue};
 ghost use Rattle.byte_io.specs.Device.{target_of};
 
+use crate::chunks::Chunks;
 use crate::fault::{CompareFault, MakeFault, PutFault};
 use crate::place::Place;
 use byte_io::{DeviceFault, Log, Tally, WriteFault};
@@ -220,7 +221,7 @@ impl Place for MemPlace {
         Ok(())
     }
 
-    fn put(&mut self, _read: Option<&[u8]>, _bytes: &[u8]) -> Result<(), PutFault> {
+    fn put<C: Chunks>(&mut self, _read: Option<&[u8]>, _content: &mut C) -> Result<(), PutFault> {
         // If it is cut short, it may be done or not.
         if !self.sure {
             self.torn = true;

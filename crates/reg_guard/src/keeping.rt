@@ -13,7 +13,7 @@ use byte_disk::Disk;
 use byte_office::{NoteFault, UnreplacedFault, put_changed, replace_after};
 use byte_out::{Place, replace};
 use reg_engine::{CliFault, OutFault, put_on, ready_on};
-use reg_file::{WriteFileFault, write_bytes};
+use reg_file::{RegisterChunks, WriteFileFault};
 use reg_journal::OfficeFile;
 use reg_state::Register;
 use std::alloc::Global;
@@ -38,13 +38,13 @@ pub(crate) fn publish_after<P: Place, Q: Place>(
         Ok(text) => text,
         Err(fault) => return Err(fault),
     };
-    let bytes = match write_bytes(alloc, register) {
-        Ok(bytes) => bytes,
+    let mut chunks = match RegisterChunks::new(alloc, register) {
+        Ok(chunks) => chunks,
         Err(WriteFileFault::TooLarge) => return Err(CliFault::Out(OutFault::TooLarge)),
         Err(_) => return Err(CliFault::Memory),
     };
     let changed = changed(file.is_changed(&next), &text);
-    match replace_after(place, read, &bytes, office, changed) {
+    match replace_after(place, read, &mut chunks, office, changed) {
         Ok(()) => {}
         Err(fault) => return Err(unkept_by(fault)),
     }
