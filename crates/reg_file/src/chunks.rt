@@ -14,7 +14,7 @@ use reg_op::Op;
 use reg_state::{Register, Run};
 use std::alloc::{AllocError, Global};
 
-/// The most bytes of a chunk with operations. No operation has more than half of them.
+/// The most bytes of a chunk with operations. One operation has at most 65,762.
 const ROOM: usize = 131_072;
 
 /// The file of a register in chunks: first the bytes before the operations, then some operations at a time. What a chunk needs
