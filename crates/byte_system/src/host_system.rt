@@ -1,6 +1,6 @@
 //! The files of the system. What a call does there is read, not proved: each function makes the calls of its name, and notes them.
 
-ghost use Rattle.std.specs.Prelude.{◌≡◌, ◌≤◌, [], None, length};
+ghost use Rattle.std.specs.Prelude.{◌≡◌, ◌≤◌, [], None, IfOk, length};
 ghost use Rattle.byte_system.specs.System.{Took};
 ghost use Rattle.byte_system.specs.Noted.{call_said};
 
@@ -8,12 +8,15 @@ use crate::host_answers::{make_fault, permissions, rename_fault, there_is};
 use crate::system::{Failed, FolderFault, MakeFault, Mode, ReadFault, RenameFault, System, There};
 use crate::trail::{Note, Said, Trail};
 use byte_out::make_alike;
-use std::alloc::Global;
+use std::alloc::{AllocError, Global};
 use std::fs::{self, File, Metadata, OpenFile, OpenOptions, TryLockError};
 use std::io::{ErrorKind, Read, Write};
 use std::os::unix::fs::{MetadataExt, OpenOptionsExt};
 use std::rt::Files;
 use std::str;
+
+/// How many files can be open at first. A place opens the old file, one that a stopped process left, and the new one.
+const ROOM: usize = 4;
 
 /// The files of the system, as this process sees them. An open file has the number of its place among those that the process has
 /// opened; a file that is opened again keeps its number.
@@ -25,15 +28,19 @@ pub struct HostSystem<'a, R> {
 }
 
 impl<'a, R: Files<File = File>> HostSystem<'a, R> {
-    /// The files of the system, of which none is open.
-    pub fn new(alloc: Global, rt: &'a R) -> HostSystem<'a, R>
-        ensures { ⟦<HostSystem<'a, R> as System>⟧.state result ≡ record { me = 0; first = None; trace = [] } }
+    /// The files of the system, of which none is open. A few can be opened without more memory.
+    pub fn new(alloc: Global, rt: &'a R) -> Result<HostSystem<'a, R>, AllocError>
+        ensures { IfOk result (λ s. ⟦<HostSystem<'a, R> as System>⟧.state s ≡ record { me = 0; first = None; trace = [] }) }
     {
-        HostSystem {
+        let open = match Vec::with_capacity(alloc, ROOM) {
+            Ok(open) => open,
+            Err(_) => return Err(AllocError),
+        };
+        Ok(HostSystem {
             rt,
-            open: Vec::new(alloc),
+            open,
             trail: Trail::new(),
-        }
+        })
     }
 
     // Notes a call of this process.
