@@ -2,11 +2,9 @@
 #![tactic(auto)]
 
 mod fault;
-mod new_place;
 mod noting;
 mod replacing;
 
 pub use fault::{NoteFault, UnreplacedFault};
-pub use new_place::NewPlace;
 pub use noting::{put_changed, put_office};
 pub use replacing::replace_after;

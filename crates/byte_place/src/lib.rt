@@ -11,6 +11,7 @@ mod steps;
 mod tests;
 mod within_place;
 
+pub use byte_system::HostSystem;
 pub use call_place::CallPlace;
 pub use either_place::EitherPlace;
 pub use laws::{its_calls_are_a_path, its_calls_are_a_round};
