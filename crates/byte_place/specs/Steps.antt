@@ -1,10 +1,8 @@
 -- The calls by which a place looks at OUT, puts its new file in place, or removes it. In each list of calls the last one comes first.
 use Rattle.std.specs.Prelude.{◌≡◌, ◌⊎◌, ℕ, true, false, List, [], ◌∷◌, Some}
-use Rattle.byte_system.specs.Disk.{Call, Opens, Looks, Finds, Renames, Fails}
+use Rattle.byte_system.specs.Disk.{Call, Opens, Looks, Finds, Compares, Renames, Fails}
 use Rattle.byte_protocol.specs.Replacing.{Denies, Removes, Asks}
 use Rattle.byte_protocol.specs.Protocol.{ChangesNone}
-use Rattle.byte_out.specs.declared.fault.PutFault.{PutFault}
-use Rattle.byte_out.specs.declared.fault.PutFault.TheVariants as put
 use Rattle.byte_protocol.specs.declared.replacing.Fault.{Fault}
 use Rattle.byte_protocol.specs.declared.replacing.Fault.TheVariants as fault
 use Rattle.byte_place.specs.declared.progress.ReserveFault.{ReserveFault}
@@ -38,15 +36,21 @@ MakesNone f before now = Unit {0}
 abbrev pub Visits : List ℕ → List Call → List Call → Type 0
 Visits out before now = Asks out before now ⊎ ((now ≡ Fails ∷ Finds out true ∷ before) ⊎ ((i : ℕ) × (now ≡ Opens out (Some i) ∷ Finds out true ∷ before)))
 
--- the new name was found to lead to the new file, which was then renamed
-abbrev pub renamed : List ℕ → List ℕ → ℕ → List Call → List Call
-renamed out new i before = Renames new out ∷ Looks new i true ∷ before
+-- the new name was found to lead to the new file, which was then read, and has these bytes, or could not be read
+abbrev pub Rechecks : List ℕ → List ℕ → ℕ → List Call → List Call → Type 0
+Rechecks new bytes i before now = (now ≡ Compares new bytes true ∷ Looks new i true ∷ before) ⊎ (now ≡ Fails ∷ Looks new i true ∷ before)
 
--- the new name was not found to lead to the new file, or the rename failed
-abbrev pub Unrenamed : PutFault → List ℕ → ℕ → List Call → List Call → Type 0
-Unrenamed put.Changed new i before now = now ≡ Looks new i false ∷ before
-Unrenamed put.NotOpened new i before now = (now ≡ Fails ∷ before) ⊎ (now ≡ Fails ∷ Looks new i true ∷ before)
-Unrenamed (put.WriteFailed n) new i before now = ⊥
+-- the new name was not found to lead to the new file, or not to these bytes
+abbrev pub Mismatches : List ℕ → List ℕ → ℕ → List Call → List Call → Type 0
+Mismatches new bytes i before now = Denies (Looks new i) before now ⊎ Denies (Compares new bytes) (Looks new i true ∷ before) now
+
+-- it was found to, and was then renamed
+abbrev pub Renamed : List ℕ → List ℕ → List ℕ → ℕ → List Call → List Call → Type 0
+Renamed out new bytes i before now = (mid : List Call) × Rechecks new bytes i before mid × (now ≡ Renames new out ∷ mid)
+
+-- it was not found to, or the rename failed
+abbrev pub Unrenamed : List ℕ → List ℕ → ℕ → List Call → List Call → Type 0
+Unrenamed new bytes i before now = Mismatches new bytes i before now ⊎ ((mid : List Call) × Rechecks new bytes i before mid × (now ≡ Fails ∷ mid))
 
 -- the new name was not found to lead to the new file; or the file was removed, or that failed
 abbrev pub Clears : List ℕ → ℕ → List Call → List Call → Type 0

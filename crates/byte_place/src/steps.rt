@@ -4,12 +4,12 @@ ghost use Rattle.std.specs.Prelude.{◌≡◌, ◌≤◌, ◌∷◌, OnOk, OnErr
 ghost use Rattle.byte_system.specs.Disk.{Finds};
 ghost use Rattle.byte_system.specs.System.{GoesOn, calls};
 ghost use Rattle.byte_protocol.specs.Replacing.{Asks};
-ghost use Rattle.byte_place.specs.Steps.{Clears, Unrenamed, Visits, renamed, told_of};
+ghost use Rattle.byte_place.specs.Steps.{Clears, Mismatches, Rechecks, Renamed, Unrenamed, Visits, told_of};
 
 use crate::progress::ReserveFault;
-use byte_out::{MakeFault, PutFault};
+use byte_out::MakeFault;
 use byte_protocol::{Fault, WriteFault};
-use byte_system::{Failed, Mode, System, There};
+use byte_system::{Failed, Mode, ReadFault, RenameFault, System, There};
 
 /// Why no new file was made, as places tell it.
 pub(crate) fn make_fault(fault: ReserveFault) -> MakeFault {
@@ -79,26 +79,63 @@ fn find<S: System>(system: &mut S, out: &[u8]) -> Result<bool, Failed>
     }
 }
 
-/// Renames the new file, if its name still leads to it.
+/// Why a new file was not put in the place of the old one.
+#[derive(Clone, Copy, Debug, PartialEq, Eq)]
+pub(crate) enum Unput {
+    /// Its name leads to another file.
+    Lost,
+    /// The system refuses to rename it.
+    Refused,
+    NotPut,
+}
+
+/// Renames the new file, if its name still leads to it, and to these bytes.
 pub(crate) fn put_own<S: System>(
     system: &mut S,
     file: usize,
     out: &[u8],
     new: &[u8],
-) -> Result<(), PutFault>
+    bytes: &[u8],
+) -> Result<(), Unput>
     ensures goes { GoesOn (S.state system.old) (S.state system.new) }
-    ensures ok { OnOk result (calls (S.state system.new) ≡ renamed out.now new.now file (calls (S.state system.old))) }
-    ensures fault { IfErr result (λ e. Unrenamed e new.now file (calls (S.state system.old)) (calls (S.state system.new))) }
+    ensures ok { OnOk result (Renamed out.now new.now bytes.now file (calls (S.state system.old)) (calls (S.state system.new))) }
+    ensures fault { OnErr result (Unrenamed new.now bytes.now file (calls (S.state system.old)) (calls (S.state system.new))) }
+{
+    match recheck(system, file, new, bytes) {
+        Ok(()) => {}
+        Err(fault) => return Err(fault),
+    }
+    match system.rename(new, out) {
+        Ok(()) => Ok(()),
+        Err(RenameFault::Refused) => Err(Unput::Refused),
+        Err(RenameFault::NotRenamed) => Err(Unput::NotPut),
+    }
+}
+
+// Whether the name of the new file still leads to it. On a network the system may remember for a while which file had the name; so it
+// is read, too, unless only others may read it.
+fn recheck<S: System>(
+    system: &mut S,
+    file: usize,
+    new: &[u8],
+    bytes: &[u8],
+) -> Result<(), Unput>
+    ensures goes { GoesOn (S.state system.old) (S.state system.new) }
+    ensures ok { OnOk result (Rechecks new.now bytes.now file (calls (S.state system.old)) (calls (S.state system.new))) }
+    ensures fault { OnErr result (Mismatches new.now bytes.now file (calls (S.state system.old)) (calls (S.state system.new))) }
 {
     match system.is_named(new, file) {
         Ok(true) => {}
-        Ok(false) => return Err(PutFault::Changed),
-        Err(_) => return Err(PutFault::NotOpened),
+        Ok(false) => return Err(Unput::Lost),
+        Err(_) => return Err(Unput::NotPut),
     }
-    if system.rename(new, out).is_err() {
-        return Err(PutFault::NotOpened);
+    match system.has(new, bytes) {
+        Ok(true) => Ok(()),
+        Ok(false) => Err(Unput::Lost),
+        Err(ReadFault::Forbidden) => Ok(()),
+        Err(ReadFault::NotOpened) => Err(Unput::NotPut),
+        Err(ReadFault::Cut(_)) => Err(Unput::NotPut),
     }
-    Ok(())
 }
 
 /// Removes the new file, if its name still leads to it.

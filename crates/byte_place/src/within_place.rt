@@ -1,10 +1,9 @@
 //! The place of a file that is written in place.
 
-ghost use Rattle.std.specs.Prelude.{◌≡◌, None, IsSome, true, false};
+ghost use Rattle.std.specs.Prelude.{◌≡◌, [], None, IsSome, true, false};
 ghost use Rattle.byte_io.specs.Device.{target_of};
 ghost use Rattle.byte_out.specs.Place.{untold, PutsOnly};
 ghost use Rattle.byte_system.specs.System.{calls};
-ghost use Rattle.byte_place.specs.Steps.{AreNone};
 ghost use Rattle.byte_place.specs.Turns.{Turns};
 
 use crate::progress::Within;
@@ -17,9 +16,9 @@ use byte_system::{ReadFault, System};
 /// The place of a file that is written in place, by `put`, and not before. It makes no call that is not in turn, so its calls are turns
 /// of the protocol of such files.
 #[derive(Drop)]
-pub struct WithinPlace<'a, S: System + Drop> {
+pub struct WithinPlace<S: System + Drop> {
     pub(crate) system: S,
-    pub(crate) out: &'a [u8],
+    pub(crate) out: Vec<u8>,
     at: Within,
     /// Whether a caller that had not read the file was about to write it.
     pub(crate) unread: bool,
@@ -28,17 +27,17 @@ pub struct WithinPlace<'a, S: System + Drop> {
     taken: Log,
     failures: Tally,
     openings: Tally,
-    ghost course: { ∥ Turns out.now got.bytes unread at (calls (S.state system)) ∥₁ },
+    ghost course: { ∥ Turns out.items got.bytes unread at (calls (S.state system)) ∥₁ },
 }
 
-impl<'a, S: System + Drop> WithinPlace<'a, S> {
-    /// The place of the file with the name `out`. No call was made that changes a file.
-    pub fn new(system: S, out: &'a [u8]) -> WithinPlace<'a, S>
-        requires { AreNone (calls (S.state system)) }
+impl<S: System + Drop> WithinPlace<S> {
+    /// The place of the file with the name `out`. No call is made yet.
+    pub fn new(system: S, out: Vec<u8>) -> WithinPlace<S>
+        requires { calls (S.state system) ≡ [] }
         ensures system { result.system ≡ system }
-        ensures out { result.out ≡ out.entry }
+        ensures out { result.out ≡ out }
         ensures unread { result.unread ≡ false }
-        ensures untold { ⟦<WithinPlace<'a, S> as Place>⟧.state result ≡ untold (target_of None) }
+        ensures untold { ⟦<WithinPlace<S> as Place>⟧.state result ≡ untold (target_of None) }
     {
         WithinPlace {
             system,
@@ -54,7 +53,7 @@ impl<'a, S: System + Drop> WithinPlace<'a, S> {
 
     // A file that was not read is not compared.
     fn settles(&mut self, is_read: bool)
-        ensures same { ⟦<WithinPlace<'a, S> as Place>⟧.state self.new ≡ ⟦<WithinPlace<'a, S> as Place>⟧.state self.old }
+        ensures same { ⟦<WithinPlace<S> as Place>⟧.state self.new ≡ ⟦<WithinPlace<S> as Place>⟧.state self.old }
         ensures read { is_read ≡ true → self.new.unread ≡ self.old.unread }
     {
         let Within::Locked(file) = self.at else {
@@ -68,7 +67,7 @@ impl<'a, S: System + Drop> WithinPlace<'a, S> {
 
     // Writes the bytes in the place of those of the file, if they may be.
     fn puts(&mut self, read: Option<&[u8]>, _bytes: &[u8]) -> Result<(), PutFault>
-        ensures calls { PutsOnly result _bytes.now (⟦<WithinPlace<'a, S> as Place>⟧.state self.old).sink (⟦<WithinPlace<'a, S> as Place>⟧.state self.new).sink }
+        ensures calls { PutsOnly result _bytes.now (⟦<WithinPlace<S> as Place>⟧.state self.old).sink (⟦<WithinPlace<S> as Place>⟧.state self.new).sink }
         ensures read { IsSome read.entry → self.new.unread ≡ self.old.unread }
     {
         self.settles(read.is_some());
@@ -92,7 +91,7 @@ impl<'a, S: System + Drop> WithinPlace<'a, S> {
     }
 }
 
-impl<'a, S: System + Drop> Place for WithinPlace<'a, S> {
+impl<S: System + Drop> Place for WithinPlace<S> {
     ghost state = { λ s. record {
       sink = record {
         written = None;
@@ -109,7 +108,7 @@ impl<'a, S: System + Drop> Place for WithinPlace<'a, S> {
             self.failures = Tally::after(&self.failures);
             return Err(MakeFault::NotOpened);
         };
-        match enter(&mut self.system, self.out) {
+        match enter(&mut self.system, &self.out) {
             Ok(file) => {
                 self.at = Within::Locked(file);
                 self.openings = Tally::after(&self.openings);
@@ -137,7 +136,7 @@ impl<'a, S: System + Drop> Place for WithinPlace<'a, S> {
         let Within::Locked(file) = self.at else {
             return Err(CompareFault::Changed);
         };
-        match self.system.has(self.out, read) {
+        match self.system.has(&self.out, read) {
             Ok(true) => {
                 self.at = Within::Ready(file);
                 Ok(())
@@ -147,6 +146,11 @@ impl<'a, S: System + Drop> Place for WithinPlace<'a, S> {
                 Err(CompareFault::Changed)
             }
             Err(ReadFault::NotOpened) => {
+                self.at = Within::Over;
+                self.failures = Tally::after(&self.failures);
+                Err(CompareFault::NotOpened)
+            }
+            Err(ReadFault::Forbidden) => {
                 self.at = Within::Over;
                 self.failures = Tally::after(&self.failures);
                 Err(CompareFault::NotOpened)

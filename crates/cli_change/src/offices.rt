@@ -4,12 +4,12 @@ ghost use Rattle.std.specs.Prelude.{None, IfOk};
 ghost use Rattle.cli_change.specs.Desks.{IsDesk};
 
 use clap::ArgMatches;
-use cli_open::engines::places::{FileId, FilePlace, Place, own_path};
+use cli_open::engines::places::{FileId, Place, own_path};
 use cli_open::engines::streams::Writing;
 use cli_open::engines::{CliFault, OutFault};
 use cli_open::files::{HostSystem, NewPlace};
 use cli_open::guards::{OfficeFile, run_office};
-use cli_open::{OpenOffice, office_at, office_file, open_office, parts, real_path, replica, word};
+use cli_open::{OpenOffice, OutPlace, office_at, office_file, open_office, parts, real_path, replica, word};
 use std::alloc::{AllocError, Global};
 use std::io::ErrorKind;
 use std::os::fd::AsFd;
@@ -80,7 +80,7 @@ pub fn open_desk<'a>(
     alloc: Global,
     named: Option<Uuid>,
     path: &'a str,
-) -> Result<Desk<FilePlace<'a, HostRuntime>>, CliFault>
+) -> Result<Desk<OutPlace<'a, HostRuntime>>, CliFault>
     ensures { IfOk result (λ desk. IsDesk named desk) }
 {
     match named {
@@ -97,7 +97,7 @@ fn desk_at<'a>(
     rt: &'a HostRuntime,
     alloc: Global,
     path: &'a str,
-) -> Result<Desk<FilePlace<'a, HostRuntime>>, CliFault>
+) -> Result<Desk<OutPlace<'a, HostRuntime>>, CliFault>
     ensures { IfOk result (λ desk. IsDesk None desk) }
 {
     match open_office(rt, alloc, path) {

@@ -23,7 +23,7 @@ pub use table::{Rows, answered, is_table};
 pub use targets::{Target, open_target};
 pub use waiting::{patience, reserve};
 pub use words::{
-    STANDARD_INPUT, STANDARD_INPUT_PATH, changed_place, entries, entry, explains, files_before,
+    OutPlace, STANDARD_INPUT, STANDARD_INPUT_PATH, changed_place, entries, entry, explains, files_before,
     is_twice, listed, office_file, open, open_all, open_text, place, printing_place, push_listed,
     push_words, replica, wanted, word,
 };

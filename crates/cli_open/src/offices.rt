@@ -1,7 +1,8 @@
 //! Opens an office file, which another command of the office then waits for.
 use crate::waiting::patience;
+use crate::words::{OutPlace, place};
 use reg_guard::engine::CliFault;
-use reg_guard::engine::places::{FilePlace, Place};
+use reg_guard::engine::places::Place;
 use reg_guard::engine::streams::Reading;
 use reg_guard::{OfficeFile, busy, lock_office, office_in, unopened};
 use std::alloc::Global;
@@ -21,13 +22,11 @@ pub fn open_office<'a>(
     rt: &'a HostRuntime,
     alloc: Global,
     path: &'a str,
-) -> Result<OpenOffice<FilePlace<'a, HostRuntime>>, CliFault> {
+) -> Result<OpenOffice<OutPlace<'a, HostRuntime>>, CliFault> {
     if has_second_name(rt, path) {
         return Err(unopened());
     }
-    let Ok(mut place) = FilePlace::new(alloc, rt, path, None) else {
-        return Err(CliFault::Memory);
-    };
+    let mut place = place(rt, alloc, path)?;
     match read_locked(rt, alloc, path, &mut place) {
         Ok(file) => Ok(OpenOffice { file, place }),
         Err(fault) => {
@@ -43,7 +42,7 @@ fn read_locked(
     rt: &HostRuntime,
     alloc: Global,
     path: &str,
-    place: &mut FilePlace<'_, HostRuntime>,
+    place: &mut OutPlace<'_, HostRuntime>,
 ) -> Result<OfficeFile, CliFault> {
     if place.reserve(patience(rt)?).is_err() {
         return Err(busy());

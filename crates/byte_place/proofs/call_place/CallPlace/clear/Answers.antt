@@ -10,4 +10,4 @@ invariant_of-self g c =
     let i = c.in-Broken.file in
     let old = calls (g.S.System.state p.system) in
     let new = calls (g.S.System.state c.remove_own.new.system) in
-    record { course = ∥∥₁_map (as_at p.out.now p.beside.now p.taken.bytes p.unread p.at (at.Broken i) old c.in-Broken.is p.course) (λ k. cleared p.out.now p.beside.now p.taken.bytes p.unread i old new k c.remove_own.ensures.clears) }
+    record { course = ∥∥₁_map (as_at p.out.items p.beside.items p.taken.bytes p.unread p.at (at.Broken i) old c.in-Broken.is p.course) (λ k. cleared p.out.items p.beside.items p.taken.bytes p.unread i old new k c.remove_own.ensures.clears) }

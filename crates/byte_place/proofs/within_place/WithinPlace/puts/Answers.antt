@@ -15,7 +15,7 @@ invariant_of-self-in-Ok g c =
     let new = calls (g.S.System.state c.fill.new.system) in
     let e : new ≡ filling i bytes old = search rules in
     let w : c.note.new.self.bytes ≡ p.got.bytes ++ bytes = search rules in
-    record { course = ∥∥₁_map (turns_at p.out.now p.got.bytes p.unread p.at (within.Ready i) old c.in-Ready.is p.course) (λ k. fills p.out.now p.got.bytes bytes c.note.new.self.bytes p.unread i old new k e w) }
+    record { course = ∥∥₁_map (turns_at p.out.items p.got.bytes p.unread p.at (within.Ready i) old c.in-Ready.is p.course) (λ k. fills p.out.items p.got.bytes bytes c.note.new.self.bytes p.unread i old new k e w) }
 
 pub invariant_of-self-in-Err : goal.invariant_of-self-in-Err
 invariant_of-self-in-Err g c =
@@ -26,4 +26,4 @@ invariant_of-self-in-Err g c =
     let new = calls (g.S.System.state c.fill.new.system) in
     let r : Spills c.in-Err.fault i bytes old new = search rules in
     let w : c.note-in-Err.new.self.bytes ≡ p.got.bytes ++ bytes = search rules in
-    record { course = ∥∥₁_map (turns_at p.out.now p.got.bytes p.unread p.at (within.Ready i) old c.in-Ready.is p.course) (λ k. spills p.out.now p.got.bytes bytes c.note-in-Err.new.self.bytes p.unread i c.in-Err.fault old new k r w) }
+    record { course = ∥∥₁_map (turns_at p.out.items p.got.bytes p.unread p.at (within.Ready i) old c.in-Ready.is p.course) (λ k. spills p.out.items p.got.bytes bytes c.note-in-Err.new.self.bytes p.unread i c.in-Err.fault old new k r w) }

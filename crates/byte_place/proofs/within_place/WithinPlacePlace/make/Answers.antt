@@ -12,13 +12,13 @@ invariant_of-self-in-Ok g c =
     let i = c.in-Ok.file in
     let old = calls (g.S.System.state p.system) in
     let new = calls (g.S.System.state c.enter.new.system) in
-    let e : new ≡ entered p.out.now i old = search rules in
-    record { course = ∥∥₁_map (turns_at p.out.now p.got.bytes p.unread p.at within.Start old c.in-Start.is p.course) (λ k. gets p.out.now p.got.bytes p.unread i old new k e) }
+    let e : new ≡ entered p.out.items i old = search rules in
+    record { course = ∥∥₁_map (turns_at p.out.items p.got.bytes p.unread p.at within.Start old c.in-Start.is p.course) (λ k. gets p.out.items p.got.bytes p.unread i old new k e) }
 
 pub invariant_of-self-in-Err : goal.invariant_of-self-in-Err
 invariant_of-self-in-Err g c =
     let p = c.args.self.now in
     let old = calls (g.S.System.state p.system) in
     let new = calls (g.S.System.state c.enter.new.system) in
-    let r : Unentered p.out.now old new = search rules in
-    record { course = ∥∥₁_map (turns_at p.out.now p.got.bytes p.unread p.at within.Start old c.in-Start.is p.course) (λ k. misses p.out.now p.got.bytes p.unread old new k r) }
+    let r : Unentered p.out.items old new = search rules in
+    record { course = ∥∥₁_map (turns_at p.out.items p.got.bytes p.unread p.at within.Start old c.in-Start.is p.course) (λ k. misses p.out.items p.got.bytes p.unread old new k r) }
