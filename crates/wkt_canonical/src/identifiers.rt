@@ -25,6 +25,10 @@ fn one_identifier(bytes: &[u8]) -> Option<(Identifier<'_>, &[u8])>
 {
     let (authority, rest) = content(bytes)?;
     let (code, rest) = code(rest)?;
+    // Most identifiers have no more.
+    if let Some(rest) = behind(rest, b"]") {
+        return Some((Identifier { authority, code }, rest));
+    }
     let rest = version(rest);
     let rest = maybe_value(Keyword::Citation, rest)?;
     let rest = maybe_value(Keyword::Uri, rest)?;
