@@ -5,6 +5,7 @@ mod canonical;
 mod conversions;
 mod crs;
 mod datums;
+mod digits;
 mod ends;
 mod front;
 mod identifiers;
