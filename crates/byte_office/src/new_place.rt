@@ -12,19 +12,19 @@ use std::rt::Files;
 
 /// The place of a file that does not exist yet, such as a new office file. It is made with its name.
 #[derive(Drop)]
-pub struct NewPlace<'a, R: Files> {
+pub struct NewStdPlace<'a, R: Files> {
     rt: &'a R,
     path: &'a str,
     out: StdFile<R::File>,
 }
 
-impl<'a, R: Files> NewPlace<'a, R> {
+impl<'a, R: Files> NewStdPlace<'a, R> {
     /// The place of a file that does not exist yet. Nothing is made yet.
-    pub fn new(rt: &'a R, path: &'a str) -> NewPlace<'a, R>
+    pub fn new(rt: &'a R, path: &'a str) -> NewStdPlace<'a, R>
         ensures path { result.path ≡ path.entry }
-        ensures untold { ⟦<NewPlace<'a, R> as Place>⟧.state result ≡ untold (target_of None) }
+        ensures untold { ⟦<NewStdPlace<'a, R> as Place>⟧.state result ≡ untold (target_of None) }
     {
-        NewPlace {
+        NewStdPlace {
             rt,
             path,
             out: StdFile::new(),
@@ -32,7 +32,7 @@ impl<'a, R: Files> NewPlace<'a, R> {
     }
 }
 
-impl<R: Files> Place for NewPlace<'_, R> {
+impl<R: Files> Place for NewStdPlace<'_, R> {
     ghost state = { λ s. record {
       sink = record {
         written = None;

@@ -19,7 +19,7 @@ pub use fault::{CompareFault, InUse, MakeFault, PutFault, ReplaceFault};
 pub use file_place::{FilePlace, own_path};
 pub use input::{Input, InputOf, first_kept};
 pub use lock::{Lock, Lockable};
-pub use mem_place::{MemPlace, Step};
+pub use mem_place::{MemPlace, PlaceStep};
 pub use place::Place;
 pub use replacing::{prepare, replace};
 pub use reserved::make_own;

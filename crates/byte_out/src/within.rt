@@ -12,18 +12,38 @@ use std::fs::{self, OpenFile, OpenOptions};
 use std::io::{ErrorKind, Read, Write};
 use std::rt::Files;
 
-/// Compares the old file, if the new one still has its name.
+/// Compares the old file, if the new one still has its name. It is returned with a lock, so that until it is closed nobody writes it
+/// in place. One that is being written in place counts as changed.
 pub(crate) fn compare_beside<R: Files>(
     rt: &R,
     file: &R::File,
     beside: &str,
     path: &str,
     bytes: &[u8],
-) -> Result<(), CompareFault> {
+) -> Result<R::File, CompareFault>
+where
+    R::File: Lockable,
+{
     if !has_name(rt, beside, file) {
         return Err(CompareFault::Changed);
     }
-    compare_at(rt, path, bytes)
+    let old = match fs::open(rt, path) {
+        Ok(old) => old,
+        Err(error) if error.kind() == ErrorKind::NotFound => return Err(CompareFault::Changed),
+        Err(_) => return Err(CompareFault::NotOpened),
+    };
+    compare_locked(old, bytes)
+}
+
+// The file, if nobody writes it in place, and it has exactly these bytes.
+fn compare_locked<F: Read + Lockable + Drop>(mut old: F, bytes: &[u8]) -> Result<F, CompareFault> {
+    if old.lock_shared() == Lock::Held {
+        return Err(CompareFault::Changed);
+    }
+    match compare(&mut old, bytes) {
+        Ok(()) => Ok(old),
+        Err(fault) => Err(fault),
+    }
 }
 
 // Compares the file at this path with these bytes.
@@ -103,12 +123,14 @@ pub(crate) fn write_within<F: Write + OpenFile + Drop>(
     Ok(())
 }
 
-/// Gives the new file its name. If the system refuses that for this file, the bytes are written into the old one.
+/// Gives the new file its name, and closes the old one, which was compared and is locked. If the system refuses that for this file,
+/// the bytes are written into the old one.
 pub(crate) fn put_beside<R: Files>(
     rt: &R,
     file: &R::File,
     beside: &str,
     path: &str,
+    compared: Option<R::File>,
     read: Option<&[u8]>,
     bytes: &[u8],
 ) -> Result<(), PutFault>
@@ -121,7 +143,9 @@ where
         Err(CompareFault::Changed) => return Err(PutFault::Changed),
         Err(_) => return Err(PutFault::NotOpened),
     }
-    match fs::rename(rt, beside, path) {
+    let renamed = fs::rename(rt, beside, path);
+    drop(compared);
+    match renamed {
         Ok(()) => Ok(()),
         Err(error) if is_fixed(error.kind()) => {
             let written = write_over(rt, path, read, bytes);

@@ -1,7 +1,7 @@
 -- The calls of a place that is written in place are turns.
 use Rattle.std.proofs.Common.{◌≡◌, ◌⊎◌, inl, inr, ℕ, Bool, true, false, List, [], ◌∷◌, ◌++◌, Option, Some, None, length, refl, sym, ◌∙◌, ap, subst}
 use Rattle.byte_system.specs.Disk.{Content, Call, Compares, Fails}
-use Rattle.byte_protocol.specs.declared.within.WriteFault.{WriteFault}
+use Rattle.byte_protocol.specs.declared.within.InPlaceFault.{InPlaceFault}
 use Rattle.byte_protocol.specs.Replacing.{entered, compared, Unentered}
 use Rattle.byte_protocol.specs.Overwriting.{filling, Spills}
 use Rattle.byte_protocol.specs.Protocol.{ChangesNone}
@@ -67,7 +67,7 @@ fills out bytes part whole u i before now s e w = λ t k task.
     let g = filled_gone t k i u x before s.1.1.0 (s.1.1.1 t k task.at_out) in
     (HasPart x i (length (t.change k x)), reach_as t k u (HasPart x i (length (t.change k x))) (e ∙ ap (λ b. filling i b before) is) g)
 
-pub spills : (out bytes part whole : List ℕ) (u : Bool) (i : ℕ) (f : WriteFault) (before now : List Call) → Turns out bytes u (within.Ready i) before → Spills f i part before now
+pub spills : (out bytes part whole : List ℕ) (u : Bool) (i : ℕ) (f : InPlaceFault) (before now : List Call) → Turns out bytes u (within.Ready i) before → Spills f i part before now
     → whole ≡ bytes ++ part → Turns out whole u within.Over now
 spills out bytes part whole u i f before now s r w = λ t k task.
     let x = s.1.0 in

@@ -8,7 +8,7 @@ ghost use Rattle.byte_place.specs.Steps.{Clears, Unrenamed, Visits, renamed, tol
 
 use crate::progress::ReserveFault;
 use byte_out::{MakeFault, PutFault};
-use byte_protocol::{Fault, WriteFault};
+use byte_protocol::{Fault, InPlaceFault};
 use byte_system::{Failed, Mode, System, There};
 
 /// Why no new file was made, as places tell it.
@@ -115,12 +115,12 @@ pub(crate) fn remove_own<S: System>(system: &mut S, file: usize, new: &[u8])
 }
 
 /// How many of the bytes a file has that was not filled. If it has all of them, they may not be sure.
-pub(crate) fn written(fault: WriteFault, whole: usize) -> usize
+pub(crate) fn written(fault: InPlaceFault, whole: usize) -> usize
     ensures { result ≤ whole }
 {
     match fault {
-        WriteFault::NotWritten(count) => count.min(whole),
-        WriteFault::NotSure => whole,
+        InPlaceFault::NotWritten(count) => count.min(whole),
+        InPlaceFault::NotSure => whole,
         _ => 0,
     }
 }

@@ -12,7 +12,7 @@ use crate::steps::written;
 use byte_io::{DeviceFault, Log, Tally, WriteFault};
 use byte_out::{CompareFault, MakeFault, Place, PutFault};
 use byte_protocol::{enter, fill};
-use byte_system::{ReadFault, System};
+use byte_system::{ReadToEndFault, System};
 
 /// The place of a file that is written in place, by `put`, and not before. It makes no call that is not in turn, so its calls are turns
 /// of the protocol of such files.
@@ -146,12 +146,12 @@ impl<'a, S: System + Drop> Place for WithinPlace<'a, S> {
                 self.at = Within::Over;
                 Err(CompareFault::Changed)
             }
-            Err(ReadFault::NotOpened) => {
+            Err(ReadToEndFault::NotOpened) => {
                 self.at = Within::Over;
                 self.failures = Tally::after(&self.failures);
                 Err(CompareFault::NotOpened)
             }
-            Err(ReadFault::Cut(count)) => {
+            Err(ReadToEndFault::Cut(count)) => {
                 self.at = Within::Over;
                 self.failures = Tally::after(&self.failures);
                 Err(CompareFault::ReadFailed(count))

@@ -1,14 +1,14 @@
 //! `replace` beside a second process, which acts between its calls.
 
 use crate::replacing::{Fault, replace};
-use crate::within::{WriteFault, write_within};
+use crate::within::{InPlaceFault, write_within};
 use byte_system::{Act, Does, MemSystem, Mode};
 use std::alloc::{AllocError, Global};
 use std::test::Fail;
 
 /// What the second process does once it has made OUT.
 #[derive(Clone, Copy)]
-enum Second {
+enum SecondProcess {
     Nothing,
     WritesToOut(usize),
     HoldsNew,
@@ -41,25 +41,29 @@ fn makes_new(alloc: Global, acts: &mut Vec<Act>) -> Result<(), AllocError> {
     act(acts, 0, Does::Write(1, b"par".to_vec(alloc)?))
 }
 
-fn acts_of(alloc: Global, acts: &mut Vec<Act>, second: Second) -> Result<(), AllocError> {
+fn acts_of(alloc: Global, acts: &mut Vec<Act>, second: SecondProcess) -> Result<(), AllocError> {
     makes_out(alloc, acts)?;
     match second {
-        Second::Nothing => Ok(()),
-        Second::WritesToOut(before) => act(acts, before, Does::Write(0, b"!".to_vec(alloc)?)),
-        Second::HoldsNew => makes_new(alloc, acts),
-        Second::LeavesNew => {
+        SecondProcess::Nothing => Ok(()),
+        SecondProcess::WritesToOut(before) => act(
+            acts,
+            before,
+            Does::Write(0, b"!".to_vec(alloc)?),
+        ),
+        SecondProcess::HoldsNew => makes_new(alloc, acts),
+        SecondProcess::LeavesNew => {
             makes_new(alloc, acts)?;
             act(acts, 0, Does::End)
         }
-        Second::TakesNew => act(acts, 1, Does::Lock(1)),
-        Second::RemovesNew => act(acts, 6, Does::Unlink(b"new".to_vec(alloc)?)),
+        SecondProcess::TakesNew => act(acts, 1, Does::Lock(1)),
+        SecondProcess::RemovesNew => act(acts, 6, Does::Unlink(b"new".to_vec(alloc)?)),
     }
 }
 
 // Replaces "old" by "mine", where the calls of these numbers fail. Whether that ends so, and leaves these bytes.
 fn ends(
     alloc: Global,
-    second: Second,
+    second: SecondProcess,
     fails: &[usize],
     want: Result<(), Fault>,
     left: &[u8],
@@ -82,7 +86,7 @@ fn ends(
 // Replaces a file that was not read, and whose bytes another process changes. Whether that ends so.
 fn replaces_unread(alloc: Global) -> Result<bool, AllocError> {
     let mut acts = Vec::new(alloc);
-    acts_of(alloc, &mut acts, Second::WritesToOut(5))?;
+    acts_of(alloc, &mut acts, SecondProcess::WritesToOut(5))?;
     let mut system = MemSystem::new(alloc, 1, acts, Vec::new(alloc));
     let result = replace(&mut system, b"out", b"new", Mode::Usual, None, b"mine");
     Ok(result == Ok(()) && system.read(b"out") == Some(b"mine"))
@@ -91,9 +95,9 @@ fn replaces_unread(alloc: Global) -> Result<bool, AllocError> {
 // Writes "mine" in the place of "old", where the calls of these numbers fail. Whether that ends so, and leaves these bytes.
 fn overwrites(
     alloc: Global,
-    second: Second,
+    second: SecondProcess,
     fails: &[usize],
-    want: Result<(), WriteFault>,
+    want: Result<(), InPlaceFault>,
     left: &[u8],
 ) -> Result<bool, AllocError> {
     let mut acts = Vec::new(alloc);
@@ -106,40 +110,40 @@ fn overwrites(
 
 #[test]
 fn writes_in_place(rt: HostRuntime) -> Result<(), Fail> {
-    assert!(rt; overwrites(rt.alloc(), Second::Nothing, &[], Ok(()), b"mine")?);
+    assert!(rt; overwrites(rt.alloc(), SecondProcess::Nothing, &[], Ok(()), b"mine")?);
     assert!(rt;
         overwrites(
             rt.alloc(),
-            Second::Nothing,
+            SecondProcess::Nothing,
             &[1],
-            Err(WriteFault::NotOpened),
+            Err(InPlaceFault::NotOpened),
             b"old"
         )?
     );
     assert!(rt;
         overwrites(
             rt.alloc(),
-            Second::WritesToOut(3),
+            SecondProcess::WritesToOut(3),
             &[],
-            Err(WriteFault::Changed),
+            Err(InPlaceFault::Changed),
             b"old!"
         )?
     );
     assert!(rt;
         overwrites(
             rt.alloc(),
-            Second::Nothing,
+            SecondProcess::Nothing,
             &[4],
-            Err(WriteFault::NotEmptied),
+            Err(InPlaceFault::NotEmptied),
             b"old"
         )?
     );
     assert!(rt;
         overwrites(
             rt.alloc(),
-            Second::Nothing,
+            SecondProcess::Nothing,
             &[5],
-            Err(WriteFault::NotWritten(2)),
+            Err(InPlaceFault::NotWritten(2)),
             b"mi"
         )?
     );
@@ -148,7 +152,7 @@ fn writes_in_place(rt: HostRuntime) -> Result<(), Fail> {
 
 #[test]
 fn replaces(rt: HostRuntime) -> Result<(), Fail> {
-    assert!(rt; ends(rt.alloc(), Second::Nothing, &[], Ok(()), b"mine")?);
+    assert!(rt; ends(rt.alloc(), SecondProcess::Nothing, &[], Ok(()), b"mine")?);
     Ok(())
 }
 
@@ -163,7 +167,7 @@ fn finds_a_change(rt: HostRuntime) -> Result<(), Fail> {
     assert!(rt;
         ends(
             rt.alloc(),
-            Second::WritesToOut(5),
+            SecondProcess::WritesToOut(5),
             &[],
             Err(Fault::Changed),
             b"old!"
@@ -177,7 +181,7 @@ fn leaves_a_new_file_that_is_locked(rt: HostRuntime) -> Result<(), Fail> {
     assert!(rt;
         ends(
             rt.alloc(),
-            Second::HoldsNew,
+            SecondProcess::HoldsNew,
             &[],
             Err(Fault::NewExists),
             b"old"
@@ -188,7 +192,7 @@ fn leaves_a_new_file_that_is_locked(rt: HostRuntime) -> Result<(), Fail> {
 
 #[test]
 fn sweeps_a_new_file_that_was_left(rt: HostRuntime) -> Result<(), Fail> {
-    assert!(rt; ends(rt.alloc(), Second::LeavesNew, &[], Ok(()), b"mine")?);
+    assert!(rt; ends(rt.alloc(), SecondProcess::LeavesNew, &[], Ok(()), b"mine")?);
     Ok(())
 }
 
@@ -197,7 +201,7 @@ fn fails_while_it_sweeps(rt: HostRuntime) -> Result<(), Fail> {
     assert!(rt;
         ends(
             rt.alloc(),
-            Second::LeavesNew,
+            SecondProcess::LeavesNew,
             &[1],
             Err(Fault::NewExists),
             b"old"
@@ -206,7 +210,7 @@ fn fails_while_it_sweeps(rt: HostRuntime) -> Result<(), Fail> {
     assert!(rt;
         ends(
             rt.alloc(),
-            Second::LeavesNew,
+            SecondProcess::LeavesNew,
             &[5],
             Err(Fault::NewExists),
             b"old"
@@ -215,7 +219,7 @@ fn fails_while_it_sweeps(rt: HostRuntime) -> Result<(), Fail> {
     assert!(rt;
         ends(
             rt.alloc(),
-            Second::LeavesNew,
+            SecondProcess::LeavesNew,
             &[6],
             Err(Fault::NotMade),
             b"old"
@@ -229,7 +233,7 @@ fn is_overtaken(rt: HostRuntime) -> Result<(), Fail> {
     assert!(rt;
         ends(
             rt.alloc(),
-            Second::TakesNew,
+            SecondProcess::TakesNew,
             &[],
             Err(Fault::NewExists),
             b"old"
@@ -243,7 +247,7 @@ fn finds_that_the_name_is_lost(rt: HostRuntime) -> Result<(), Fail> {
     assert!(rt;
         ends(
             rt.alloc(),
-            Second::RemovesNew,
+            SecondProcess::RemovesNew,
             &[],
             Err(Fault::Lost),
             b"old"
@@ -257,7 +261,7 @@ fn fails_as_told(rt: HostRuntime) -> Result<(), Fail> {
     assert!(rt;
         ends(
             rt.alloc(),
-            Second::Nothing,
+            SecondProcess::Nothing,
             &[0],
             Err(Fault::NotMade),
             b"old"
@@ -266,7 +270,7 @@ fn fails_as_told(rt: HostRuntime) -> Result<(), Fail> {
     assert!(rt;
         ends(
             rt.alloc(),
-            Second::Nothing,
+            SecondProcess::Nothing,
             &[1],
             Err(Fault::NewExists),
             b"old"
@@ -275,7 +279,7 @@ fn fails_as_told(rt: HostRuntime) -> Result<(), Fail> {
     assert!(rt;
         ends(
             rt.alloc(),
-            Second::Nothing,
+            SecondProcess::Nothing,
             &[2],
             Err(Fault::NewExists),
             b"old"
@@ -284,7 +288,7 @@ fn fails_as_told(rt: HostRuntime) -> Result<(), Fail> {
     assert!(rt;
         ends(
             rt.alloc(),
-            Second::Nothing,
+            SecondProcess::Nothing,
             &[3],
             Err(Fault::NotWritten(2)),
             b"old"
@@ -293,7 +297,7 @@ fn fails_as_told(rt: HostRuntime) -> Result<(), Fail> {
     assert!(rt;
         ends(
             rt.alloc(),
-            Second::Nothing,
+            SecondProcess::Nothing,
             &[4],
             Err(Fault::NotSure),
             b"old"
@@ -302,7 +306,7 @@ fn fails_as_told(rt: HostRuntime) -> Result<(), Fail> {
     assert!(rt;
         ends(
             rt.alloc(),
-            Second::Nothing,
+            SecondProcess::Nothing,
             &[5],
             Err(Fault::NotRead),
             b"old"
@@ -311,7 +315,7 @@ fn fails_as_told(rt: HostRuntime) -> Result<(), Fail> {
     assert!(rt;
         ends(
             rt.alloc(),
-            Second::Nothing,
+            SecondProcess::Nothing,
             &[6],
             Err(Fault::NotLooked),
             b"old"
@@ -320,7 +324,7 @@ fn fails_as_told(rt: HostRuntime) -> Result<(), Fail> {
     assert!(rt;
         ends(
             rt.alloc(),
-            Second::Nothing,
+            SecondProcess::Nothing,
             &[7],
             Err(Fault::NotPut),
             b"old"
@@ -329,7 +333,7 @@ fn fails_as_told(rt: HostRuntime) -> Result<(), Fail> {
     assert!(rt;
         ends(
             rt.alloc(),
-            Second::Nothing,
+            SecondProcess::Nothing,
             &[8],
             Err(Fault::NotSynced),
             b"mine"

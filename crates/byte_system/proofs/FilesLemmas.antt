@@ -5,9 +5,9 @@ use lib.Pointwise.{bytes_decides}
 use Rattle.byte_system.specs.Disk.{content, content_of, Disk, Event, Call, Makes, Opens, Locks, Compares, Looks, Writes, Truncates, Renames, Unlinks, Finds, Likens, Ends, Gives, Honest, IsNew, after, step, named, numbered, released, no_files}
 use Rattle.byte_system.specs.Entries.{name_from, bytes_from, holder_from, may_lock, is_file}
 use Rattle.byte_system.specs.Files.{IsUnused, Shows}
-use Rattle.byte_system.specs.declared.entries.Name.{Name}
-use Rattle.byte_system.specs.declared.entries.Held.{Held}
-use Rattle.byte_system.specs.declared.entries.Lock.{Lock}
+use Rattle.byte_system.specs.declared.entries.NameChange.{NameChange}
+use Rattle.byte_system.specs.declared.entries.BytesChange.{BytesChange}
+use Rattle.byte_system.specs.declared.entries.LockChange.{LockChange}
 
 no_bytes : (x : Option (List ℕ)) (bs : List ℕ) → x ≡ None → x ≡ Some bs → ⊥
 no_bytes x bs a b = cc
@@ -33,7 +33,7 @@ numbered_other f i a j ne =
 not_equal : (i j c : ℕ) → i < c → c ≤ j → j ≢ i
 not_equal i j c l m e = let q : j ≡ i = e in omega (arith, l, m, q)
 
-module _ (ns : List Name) (hs : List Held) (ls : List Lock) (c : ℕ) (es : List Event) (s : Shows ns hs ls c es) (k : ℕ) where
+module _ (ns : List NameChange) (hs : List BytesChange) (ls : List LockChange) (c : ℕ) (es : List Event) (s : Shows ns hs ls c es) (k : ℕ) where
   abbrev d : Disk
   d = after no_files es
 
@@ -69,7 +69,7 @@ module _ (ns : List Name) (hs : List Held) (ls : List Lock) (c : ℕ) (es : List
           | inr (n, e) ↦ ap (λ b. cond b (d.bytes i ++ []) (d.bytes j)) n
         ]
 
-  pub wrote : (i : ℕ) (bs : List ℕ) (hs' : List Held) → i < c → ((j : ℕ) → bytes_from [] hs' j ≡ numbered (bytes_from [] hs) i (bytes_from [] hs i ++ bs) j)
+  pub wrote : (i : ℕ) (bs : List ℕ) (hs' : List BytesChange) → i < c → ((j : ℕ) → bytes_from [] hs' j ≡ numbered (bytes_from [] hs) i (bytes_from [] hs i ++ bs) j)
       → Shows ns hs' ls c (record { by = k; call = Writes i bs } ∷ es)
   wrote i bs hs' less new = record {
     names_are = s.names_are;
@@ -84,7 +84,7 @@ module _ (ns : List Name) (hs : List Held) (ls : List Lock) (c : ℕ) (es : List
     honest = (s.honest, tt);
   }
 
-  pub truncated : (i : ℕ) (hs' : List Held) → ((j : ℕ) → bytes_from [] hs' j ≡ numbered (bytes_from [] hs) i [] j) → Shows ns hs' ls c (record { by = k; call = Truncates i } ∷ es)
+  pub truncated : (i : ℕ) (hs' : List BytesChange) → ((j : ℕ) → bytes_from [] hs' j ≡ numbered (bytes_from [] hs) i [] j) → Shows ns hs' ls c (record { by = k; call = Truncates i } ∷ es)
   truncated i hs' new = record {
     names_are = s.names_are;
     bytes_are = λ j. ap (λ x. cond (eqb j i) [] x) (s.bytes_are j) ∙ sym (new j);
@@ -97,7 +97,7 @@ module _ (ns : List Name) (hs : List Held) (ls : List Lock) (c : ℕ) (es : List
     still_empty true x e = refl
     still_empty false x e = e
 
-  pub made : (p : List ℕ) (ns' : List Name) → name_from None ns p ≡ None → ((q : List ℕ) → name_from None ns' q ≡ named (name_from None ns) p (Some c) q)
+  pub made : (p : List ℕ) (ns' : List NameChange) → name_from None ns p ≡ None → ((q : List ℕ) → name_from None ns' q ≡ named (name_from None ns) p (Some c) q)
       → Shows ns' hs ls (c + 1) (record { by = k; call = Makes p (Some c) } ∷ es)
   made p ns' free new = record {
     names_are = λ q. ap (λ x. cond (bytes_eq q p) (Some c) x) (s.names_are q) ∙ sym (new q);
@@ -126,7 +126,7 @@ module _ (ns : List Name) (hs : List Held) (ls : List Lock) (c : ℕ) (es : List
     either true x i l e = let q : c ≡ i = some_same c i e in omega (arith, q)
     either false x i l e = let q : i < c = l e in omega (arith, q)
 
-  pub locked : (i : ℕ) (ls' : List Lock) → i < c → (holder_from None ls i ≡ None) ⊎ (holder_from None ls i ≡ Some k) → ((j : ℕ) → holder_from None ls' j ≡ numbered (holder_from None ls) i (Some k) j)
+  pub locked : (i : ℕ) (ls' : List LockChange) → i < c → (holder_from None ls i ≡ None) ⊎ (holder_from None ls i ≡ Some k) → ((j : ℕ) → holder_from None ls' j ≡ numbered (holder_from None ls) i (Some k) j)
       → Shows ns hs ls' c (record { by = k; call = Locks i true } ∷ es)
   locked i ls' less free new = record {
     names_are = s.names_are;
@@ -150,7 +150,7 @@ module _ (ns : List Name) (hs : List Held) (ls : List Lock) (c : ℕ) (es : List
   some_there : (x y : Option ℕ) (f : ℕ) → x ≡ y → y ≡ Some f → IsSome x
   some_there x y f e g = subst IsSome (sym (e ∙ g)) refl
 
-  pub moved : (p q : List ℕ) (f : ℕ) (ns' : List Name) → name_from None ns p ≡ Some f
+  pub moved : (p q : List ℕ) (f : ℕ) (ns' : List NameChange) → name_from None ns p ≡ Some f
       → ((r : List ℕ) → name_from None ns' r ≡ named (named (name_from None ns) q (Some f)) p None r) → Shows ns' hs ls c (record { by = k; call = Renames p q } ∷ es)
   moved p q f ns' there new = record {
     names_are = λ r. ap (λ x. cond (bytes_eq r p) None (cond (bytes_eq r q) x (d.names r))) at_p ∙ ap (λ x. cond (bytes_eq r p) None (cond (bytes_eq r q) (Some f) x)) (s.names_are r) ∙ sym (new r);
@@ -168,7 +168,7 @@ module _ (ns : List Name) (hs : List Held) (ls : List Lock) (c : ℕ) (es : List
     either false true r i e = s.below p i e
     either false false r i e = s.below r i e
 
-  pub unlinked : (p : List ℕ) (f : ℕ) (ns' : List Name) → name_from None ns p ≡ Some f → ((r : List ℕ) → name_from None ns' r ≡ named (name_from None ns) p None r)
+  pub unlinked : (p : List ℕ) (f : ℕ) (ns' : List NameChange) → name_from None ns p ≡ Some f → ((r : List ℕ) → name_from None ns' r ≡ named (name_from None ns) p None r)
       → Shows ns' hs ls c (record { by = k; call = Unlinks p } ∷ es)
   unlinked p f ns' there new = record {
     names_are = λ r. ap (λ x. cond (bytes_eq r p) None x) (s.names_are r) ∙ sym (new r);
@@ -182,7 +182,7 @@ module _ (ns : List Name) (hs : List Held) (ls : List Lock) (c : ℕ) (es : List
     either true r i e = cc
     either false r i e = s.below r i e
 
-  pub ended : (ls' : List Lock) → ((j : ℕ) → holder_from None ls' j ≡ released k (holder_from None ls j)) → Shows ns hs ls' c (record { by = k; call = Ends } ∷ es)
+  pub ended : (ls' : List LockChange) → ((j : ℕ) → holder_from None ls' j ≡ released k (holder_from None ls j)) → Shows ns hs ls' c (record { by = k; call = Ends } ∷ es)
   ended ls' new = record {
     names_are = s.names_are;
     bytes_are = s.bytes_are;
@@ -257,7 +257,7 @@ module _ (ns : List Name) (hs : List Held) (ls : List Lock) (c : ℕ) (es : List
   had_none p bs none = idle (Compares p bs false) refl (λ q. no_bytes (content d p) bs (ap (content_of d.bytes) (s.names_are p ∙ none)) q)
 
 -- the same at other names for the same
-pub shown : (ns ns' : List Name) (hs hs' : List Held) (ls ls' : List Lock) (c c' : ℕ) (es es' : List Event) → ns' ≡ ns → hs' ≡ hs → ls' ≡ ls → c' ≡ c → es' ≡ es → Shows ns hs ls c es → Shows ns' hs' ls' c' es'
+pub shown : (ns ns' : List NameChange) (hs hs' : List BytesChange) (ls ls' : List LockChange) (c c' : ℕ) (es es' : List Event) → ns' ≡ ns → hs' ≡ hs → ls' ≡ ls → c' ≡ c → es' ≡ es → Shows ns hs ls c es → Shows ns' hs' ls' c' es'
 shown ns ns' hs hs' ls ls' c c' es es' a b d f g s =
     subst (λ x. Shows x hs' ls' c' es') (sym a) (subst (λ x. Shows ns x ls' c' es') (sym b) (subst (λ x. Shows ns hs x c' es') (sym d) (subst (λ x. Shows ns hs ls x es') (sym f) (subst (λ x. Shows ns hs ls c x) (sym g) s))))
 

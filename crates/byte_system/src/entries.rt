@@ -8,36 +8,36 @@ use std::alloc::{AllocError, Global};
 
 /// A name has a file from now on, or none; or one name was given the file of another.
 #[derive(Drop)]
-pub(crate) enum Name {
+pub(crate) enum NameChange {
     Set(Vec<u8>, Option<usize>),
     Moved(Vec<u8>, Vec<u8>, Option<usize>),
 }
 
 /// A file has these bytes from now on.
 #[derive(Drop)]
-pub(crate) struct Held {
+pub(crate) struct BytesChange {
     pub(crate) file: usize,
     pub(crate) bytes: Vec<u8>,
 }
 
 /// A file is locked by a process; or a process has ended.
 #[derive(Clone, Copy, Drop)]
-pub(crate) enum Lock {
+pub(crate) enum LockChange {
     Taken(usize, usize),
     Ended(usize),
 }
 
-fn after_name(found: Option<usize>, name: &Name, path: &[u8]) -> Option<usize>
+fn after_name(found: Option<usize>, name: &NameChange, path: &[u8]) -> Option<usize>
     ensures { result ≡ name_step found name.now path.now }
 {
     match name {
-        Name::Set(with, file) => {
+        NameChange::Set(with, file) => {
             if path == with.as_slice() {
                 return *file;
             }
             found
         }
-        Name::Moved(from, to, file) => {
+        NameChange::Moved(from, to, file) => {
             if path == from.as_slice() {
                 return None;
             }
@@ -50,7 +50,7 @@ fn after_name(found: Option<usize>, name: &Name, path: &[u8]) -> Option<usize>
 }
 
 /// The file with a name.
-pub(crate) fn file_named(names: &[Name], path: &[u8]) -> Option<usize>
+pub(crate) fn file_named(names: &[NameChange], path: &[u8]) -> Option<usize>
     ensures { result ≡ name_from None names.now path.now }
 {
     let mut found = None;
@@ -63,7 +63,7 @@ pub(crate) fn file_named(names: &[Name], path: &[u8]) -> Option<usize>
 }
 
 /// The bytes of a file.
-pub(crate) fn bytes_of(held: &[Held], file: usize) -> &[u8]
+pub(crate) fn bytes_of(held: &[BytesChange], file: usize) -> &[u8]
     ensures { result.now ≡ bytes_from [] held.now file }
 {
     let mut found: &[u8] = &[];
@@ -77,17 +77,17 @@ pub(crate) fn bytes_of(held: &[Held], file: usize) -> &[u8]
     found
 }
 
-fn after_lock(found: Option<usize>, lock: Lock, file: usize) -> Option<usize>
+fn after_lock(found: Option<usize>, lock: LockChange, file: usize) -> Option<usize>
     ensures { result ≡ lock_step found lock file }
 {
     match lock {
-        Lock::Taken(taken, by) => {
+        LockChange::Taken(taken, by) => {
             if file == taken {
                 return Some(by);
             }
             found
         }
-        Lock::Ended(by) => match found {
+        LockChange::Ended(by) => match found {
             None => None,
             Some(holder) => {
                 if holder == by {
@@ -100,7 +100,7 @@ fn after_lock(found: Option<usize>, lock: Lock, file: usize) -> Option<usize>
 }
 
 /// The process that has the lock of a file.
-pub(crate) fn holder_of(locks: &[Lock], file: usize) -> Option<usize>
+pub(crate) fn holder_of(locks: &[LockChange], file: usize) -> Option<usize>
     ensures { result ≡ holder_from None locks.now file }
 {
     let mut found = None;
@@ -135,7 +135,7 @@ pub(crate) fn is_file(found: Option<usize>, file: usize) -> bool
 /// Gives a name a file, or takes it away.
 pub(crate) fn set_name(
     alloc: Global,
-    names: &mut Vec<Name>,
+    names: &mut Vec<NameChange>,
     path: &[u8],
     file: Option<usize>,
 ) -> Result<(), AllocError>
@@ -143,7 +143,7 @@ pub(crate) fn set_name(
     ensures err { OnErr result (names.new.items ≡ names.old.items) }
 {
     let path = path.to_vec(alloc)?;
-    if let Err(_) = names.push(Name::Set(path, file)) {
+    if let Err(_) = names.push(NameChange::Set(path, file)) {
         return Err(AllocError);
     }
     Ok(())
@@ -152,7 +152,7 @@ pub(crate) fn set_name(
 /// Gives the file of one name another name.
 pub(crate) fn move_name(
     alloc: Global,
-    names: &mut Vec<Name>,
+    names: &mut Vec<NameChange>,
     from: &[u8],
     to: &[u8],
     file: Option<usize>,
@@ -162,7 +162,7 @@ pub(crate) fn move_name(
 {
     let from = from.to_vec(alloc)?;
     let to = to.to_vec(alloc)?;
-    if let Err(_) = names.push(Name::Moved(from, to, file)) {
+    if let Err(_) = names.push(NameChange::Moved(from, to, file)) {
         return Err(AllocError);
     }
     Ok(())
@@ -171,7 +171,7 @@ pub(crate) fn move_name(
 /// Appends bytes to those of a file.
 pub(crate) fn append(
     alloc: Global,
-    held: &mut Vec<Held>,
+    held: &mut Vec<BytesChange>,
     file: usize,
     bytes: &[u8],
 ) -> Result<(), AllocError>
@@ -180,26 +180,30 @@ pub(crate) fn append(
 {
     let mut all = bytes_of(held, file).to_vec(alloc)?;
     all.extend_from_slice(bytes)?;
-    if let Err(_) = held.push(Held { file, bytes: all }) {
+    if let Err(_) = held.push(BytesChange { file, bytes: all }) {
         return Err(AllocError);
     }
     Ok(())
 }
 
 /// Empties a file.
-pub(crate) fn set_empty(alloc: Global, held: &mut Vec<Held>, file: usize) -> Result<(), AllocError>
+pub(crate) fn set_empty(
+    alloc: Global,
+    held: &mut Vec<BytesChange>,
+    file: usize,
+) -> Result<(), AllocError>
     ensures ok { OnOk result ((i : ℕ) → bytes_from [] held.new.items i ≡ numbered (bytes_from [] held.old.items) file [] i) }
     ensures err { OnErr result (held.new.items ≡ held.old.items) }
 {
     let bytes = Vec::new(alloc);
-    if let Err(_) = held.push(Held { file, bytes }) {
+    if let Err(_) = held.push(BytesChange { file, bytes }) {
         return Err(AllocError);
     }
     Ok(())
 }
 
 /// Adds an entry about locks.
-pub(crate) fn set_lock(locks: &mut Vec<Lock>, lock: Lock) -> Result<(), AllocError>
+pub(crate) fn set_lock(locks: &mut Vec<LockChange>, lock: LockChange) -> Result<(), AllocError>
     ensures ok { OnOk result ((i : ℕ) → holder_from None locks.new.items i ≡ lock_step (holder_from None locks.old.items i) lock i) }
     ensures err { OnErr result (locks.new.items ≡ locks.old.items) }
 {

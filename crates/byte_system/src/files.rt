@@ -4,20 +4,20 @@ ghost use Rattle.std.specs.Prelude.{◌≡◌, ◌≤◌, ◌∷◌, []};
 ghost use Rattle.byte_system.specs.Files.{Shows};
 
 use crate::entries::{
-    Held, Lock, Name, append, bytes_of, file_named, holder_of, is_file, may_lock, move_name,
-    set_empty, set_lock, set_name,
+    BytesChange, LockChange, NameChange, append, bytes_of, file_named, holder_of, is_file,
+    may_lock, move_name, set_empty, set_lock, set_name,
 };
-use crate::system::{Failed, FolderFault, MakeFault, ReadFault, RenameFault, There};
-use crate::trail::{Note, Said, Trail};
+use crate::system::{Failed, FolderSyncFault, MakeFileFault, ReadToEndFault, RenameFault, There};
+use crate::trail::{AnsweredCall, ProcessCall, Trail};
 use std::alloc::Global;
 
 /// Names, files and locks, and the events that led to them.
 #[derive(Drop)]
 pub(crate) struct Files {
     alloc: Global,
-    names: Vec<Name>,
-    held: Vec<Held>,
-    locks: Vec<Lock>,
+    names: Vec<NameChange>,
+    held: Vec<BytesChange>,
+    locks: Vec<LockChange>,
     count: usize,
     pub(crate) trail: Trail,
     ghost shows: { ∥ Shows names.items held.items locks.items count trail.events ∥₁ },
@@ -52,9 +52,9 @@ impl Files {
     pub(crate) fn fail(&mut self, by: usize)
         ensures { self.new.trail.events ≡ record { by = by; call = Fails } ∷ self.old.trail.events }
     {
-        self.trail = self.trail.then(&Note {
+        self.trail = self.trail.then(&ProcessCall {
             by,
-            call: Said::Fails,
+            call: AnsweredCall::Fails,
         });
     }
 
@@ -67,15 +67,15 @@ impl Files {
             return Err(Failed);
         }
         let Some(_) = file_named(&self.names, path) else {
-            self.trail = self.trail.then(&Note {
+            self.trail = self.trail.then(&ProcessCall {
                 by,
-                call: Said::Finds(path, false),
+                call: AnsweredCall::Finds(path, false),
             });
             return Ok(There::Nothing);
         };
-        self.trail = self.trail.then(&Note {
+        self.trail = self.trail.then(&ProcessCall {
             by,
-            call: Said::Finds(path, true),
+            call: AnsweredCall::Finds(path, true),
         });
         Ok(There::Sole)
     }
@@ -98,9 +98,9 @@ impl Files {
             self.fail(by);
             return Err(Failed);
         };
-        self.trail = self.trail.then(&Note {
+        self.trail = self.trail.then(&ProcessCall {
             by,
-            call: Said::Likens(file, path),
+            call: AnsweredCall::Likens(file, path),
         });
         Ok(true)
     }
@@ -111,40 +111,40 @@ impl Files {
         path: &[u8],
         works: bool,
         is_forbidden: bool,
-    ) -> Result<usize, MakeFault>
+    ) -> Result<usize, MakeFileFault>
         ensures { self.new.trail.events ≡ record { by = by; call = make_call path.now result } ∷ self.old.trail.events }
     {
         if is_forbidden {
             self.fail(by);
-            return Err(MakeFault::Forbidden);
+            return Err(MakeFileFault::Forbidden);
         }
         if !works {
             self.fail(by);
-            return Err(MakeFault::NotMade);
+            return Err(MakeFileFault::NotMade);
         }
         if let Some(_) = file_named(&self.names, path) {
-            self.trail = self.trail.then(&Note {
+            self.trail = self.trail.then(&ProcessCall {
                 by,
-                call: Said::Makes(path, None),
+                call: AnsweredCall::Makes(path, None),
             });
-            return Err(MakeFault::Exists);
+            return Err(MakeFileFault::Exists);
         }
         let file = self.count;
         let Some(next) = file.checked_add(1) else {
             self.fail(by);
-            return Err(MakeFault::NotMade);
+            return Err(MakeFileFault::NotMade);
         };
         if let Err(_) = set_name(self.alloc, &mut self.names, path, Some(file)) {
-            self.trail = self.trail.then(&Note {
+            self.trail = self.trail.then(&ProcessCall {
                 by,
-                call: Said::Fails,
+                call: AnsweredCall::Fails,
             });
-            return Err(MakeFault::NotMade);
+            return Err(MakeFileFault::NotMade);
         }
         self.count = next;
-        self.trail = self.trail.then(&Note {
+        self.trail = self.trail.then(&ProcessCall {
             by,
-            call: Said::Makes(path, Some(file)),
+            call: AnsweredCall::Makes(path, Some(file)),
         });
         Ok(file)
     }
@@ -160,9 +160,9 @@ impl Files {
             self.fail(by);
             return Err(Failed);
         };
-        self.trail = self.trail.then(&Note {
+        self.trail = self.trail.then(&ProcessCall {
             by,
-            call: Said::Opens(path, file),
+            call: AnsweredCall::Opens(path, file),
         });
         Ok(file)
     }
@@ -179,22 +179,22 @@ impl Files {
             return Err(Failed);
         }
         if !may_lock(holder_of(&self.locks, file), by) {
-            self.trail = self.trail.then(&Note {
+            self.trail = self.trail.then(&ProcessCall {
                 by,
-                call: Said::Locks(file, false),
+                call: AnsweredCall::Locks(file, false),
             });
             return Ok(false);
         }
-        if let Err(_) = set_lock(&mut self.locks, Lock::Taken(file, by)) {
-            self.trail = self.trail.then(&Note {
+        if let Err(_) = set_lock(&mut self.locks, LockChange::Taken(file, by)) {
+            self.trail = self.trail.then(&ProcessCall {
                 by,
-                call: Said::Fails,
+                call: AnsweredCall::Fails,
             });
             return Err(Failed);
         }
-        self.trail = self.trail.then(&Note {
+        self.trail = self.trail.then(&ProcessCall {
             by,
-            call: Said::Locks(file, true),
+            call: AnsweredCall::Locks(file, true),
         });
         Ok(true)
     }
@@ -213,15 +213,15 @@ impl Files {
             return Err(Failed);
         }
         if is_file(file_named(&self.names, path), file) {
-            self.trail = self.trail.then(&Note {
+            self.trail = self.trail.then(&ProcessCall {
                 by,
-                call: Said::Looks(path, file, true),
+                call: AnsweredCall::Looks(path, file, true),
             });
             return Ok(true);
         }
-        self.trail = self.trail.then(&Note {
+        self.trail = self.trail.then(&ProcessCall {
             by,
-            call: Said::Looks(path, file, false),
+            call: AnsweredCall::Looks(path, file, false),
         });
         Ok(false)
     }
@@ -232,22 +232,22 @@ impl Files {
     {
         let n = count_for(bytes.len(), works);
         if self.count <= file {
-            self.trail = self.trail.then(&Note {
+            self.trail = self.trail.then(&ProcessCall {
                 by,
-                call: Said::Writes(file, &[]),
+                call: AnsweredCall::Writes(file, &[]),
             });
             return 0;
         }
         if let Err(_) = append(self.alloc, &mut self.held, file, &bytes[..n]) {
-            self.trail = self.trail.then(&Note {
+            self.trail = self.trail.then(&ProcessCall {
                 by,
-                call: Said::Writes(file, &[]),
+                call: AnsweredCall::Writes(file, &[]),
             });
             return 0;
         }
-        self.trail = self.trail.then(&Note {
+        self.trail = self.trail.then(&ProcessCall {
             by,
-            call: Said::Writes(file, &bytes[..n]),
+            call: AnsweredCall::Writes(file, &bytes[..n]),
         });
         n
     }
@@ -264,15 +264,15 @@ impl Files {
             return Err(Failed);
         }
         if let Err(_) = set_empty(self.alloc, &mut self.held, file) {
-            self.trail = self.trail.then(&Note {
+            self.trail = self.trail.then(&ProcessCall {
                 by,
-                call: Said::Fails,
+                call: AnsweredCall::Fails,
             });
             return Err(Failed);
         }
-        self.trail = self.trail.then(&Note {
+        self.trail = self.trail.then(&ProcessCall {
             by,
-            call: Said::Truncates(file),
+            call: AnsweredCall::Truncates(file),
         });
         Ok(())
     }
@@ -284,9 +284,9 @@ impl Files {
             self.fail(by);
             return Err(Failed);
         }
-        self.trail = self.trail.then(&Note {
+        self.trail = self.trail.then(&ProcessCall {
             by,
-            call: Said::Syncs(file),
+            call: AnsweredCall::Syncs(file),
         });
         Ok(())
     }
@@ -297,30 +297,30 @@ impl Files {
         path: &[u8],
         bytes: &[u8],
         works: bool,
-    ) -> Result<bool, ReadFault>
+    ) -> Result<bool, ReadToEndFault>
         ensures { self.new.trail.events ≡ record { by = by; call = told_or_failed (Compares path.now bytes.now) result } ∷ self.old.trail.events }
     {
         if !works {
             self.fail(by);
-            return Err(ReadFault::NotOpened);
+            return Err(ReadToEndFault::NotOpened);
         }
         let Some(file) = file_named(&self.names, path) else {
-            self.trail = self.trail.then(&Note {
+            self.trail = self.trail.then(&ProcessCall {
                 by,
-                call: Said::Compares(path, bytes, false),
+                call: AnsweredCall::Compares(path, bytes, false),
             });
             return Ok(false);
         };
         if bytes_of(&self.held, file) == bytes {
-            self.trail = self.trail.then(&Note {
+            self.trail = self.trail.then(&ProcessCall {
                 by,
-                call: Said::Compares(path, bytes, true),
+                call: AnsweredCall::Compares(path, bytes, true),
             });
             return Ok(true);
         }
-        self.trail = self.trail.then(&Note {
+        self.trail = self.trail.then(&ProcessCall {
             by,
-            call: Said::Compares(path, bytes, false),
+            call: AnsweredCall::Compares(path, bytes, false),
         });
         Ok(false)
     }
@@ -343,15 +343,15 @@ impl Files {
             return Err(RenameFault::NotRenamed);
         };
         if let Err(_) = move_name(self.alloc, &mut self.names, from, to, Some(file)) {
-            self.trail = self.trail.then(&Note {
+            self.trail = self.trail.then(&ProcessCall {
                 by,
-                call: Said::Fails,
+                call: AnsweredCall::Fails,
             });
             return Err(RenameFault::NotRenamed);
         }
-        self.trail = self.trail.then(&Note {
+        self.trail = self.trail.then(&ProcessCall {
             by,
-            call: Said::Renames(from, to),
+            call: AnsweredCall::Renames(from, to),
         });
         Ok(())
     }
@@ -368,15 +368,15 @@ impl Files {
             return Err(Failed);
         };
         if let Err(_) = set_name(self.alloc, &mut self.names, path, None) {
-            self.trail = self.trail.then(&Note {
+            self.trail = self.trail.then(&ProcessCall {
                 by,
-                call: Said::Fails,
+                call: AnsweredCall::Fails,
             });
             return Err(Failed);
         }
-        self.trail = self.trail.then(&Note {
+        self.trail = self.trail.then(&ProcessCall {
             by,
-            call: Said::Unlinks(path),
+            call: AnsweredCall::Unlinks(path),
         });
         Ok(())
     }
@@ -386,16 +386,16 @@ impl Files {
         by: usize,
         path: &[u8],
         works: bool,
-    ) -> Result<(), FolderFault>
+    ) -> Result<(), FolderSyncFault>
         ensures { self.new.trail.events ≡ record { by = by; call = done_or_failed (SyncsFolder path.now) result } ∷ self.old.trail.events }
     {
         if !works {
             self.fail(by);
-            return Err(FolderFault::NotSynced);
+            return Err(FolderSyncFault::NotSynced);
         }
-        self.trail = self.trail.then(&Note {
+        self.trail = self.trail.then(&ProcessCall {
             by,
-            call: Said::SyncsFolder(path),
+            call: AnsweredCall::SyncsFolder(path),
         });
         Ok(())
     }
@@ -404,16 +404,16 @@ impl Files {
     pub(crate) fn end(&mut self, by: usize) -> Result<(), Failed>
         ensures { self.new.trail.events ≡ record { by = by; call = done_or_failed Ends result } ∷ self.old.trail.events }
     {
-        if let Err(_) = set_lock(&mut self.locks, Lock::Ended(by)) {
-            self.trail = self.trail.then(&Note {
+        if let Err(_) = set_lock(&mut self.locks, LockChange::Ended(by)) {
+            self.trail = self.trail.then(&ProcessCall {
                 by,
-                call: Said::Fails,
+                call: AnsweredCall::Fails,
             });
             return Err(Failed);
         }
-        self.trail = self.trail.then(&Note {
+        self.trail = self.trail.then(&ProcessCall {
             by,
-            call: Said::Ends,
+            call: AnsweredCall::Ends,
         });
         Ok(())
     }

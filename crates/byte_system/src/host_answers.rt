@@ -1,6 +1,6 @@
 //! What answers of the system mean.
 
-use crate::system::{MakeFault, Mode, RenameFault, There};
+use crate::system::{MakeFileFault, Mode, RenameFault, There};
 use std::fs::Metadata;
 use std::io::ErrorKind;
 use std::os::unix::fs::MetadataExt;
@@ -26,12 +26,12 @@ pub(crate) fn permissions(mode: Mode) -> u32 {
 }
 
 /// Why no file was made.
-pub(crate) fn make_fault(error: ErrorKind) -> MakeFault {
+pub(crate) fn make_fault(error: ErrorKind) -> MakeFileFault {
     match error {
-        ErrorKind::AlreadyExists => MakeFault::Exists,
+        ErrorKind::AlreadyExists => MakeFileFault::Exists,
         ErrorKind::PermissionDenied | ErrorKind::ReadOnlyFilesystem | ErrorKind::InvalidFilename =>
-            MakeFault::Forbidden,
-        _ => MakeFault::NotMade,
+            MakeFileFault::Forbidden,
+        _ => MakeFileFault::NotMade,
     }
 }
 

@@ -5,8 +5,10 @@ ghost use Rattle.byte_system.specs.System.{Took};
 ghost use Rattle.byte_system.specs.Noted.{call_said};
 
 use crate::host_answers::{make_fault, permissions, rename_fault, there_is};
-use crate::system::{Failed, FolderFault, MakeFault, Mode, ReadFault, RenameFault, System, There};
-use crate::trail::{Note, Said, Trail};
+use crate::system::{
+    Failed, FolderSyncFault, MakeFileFault, Mode, ReadToEndFault, RenameFault, System, There,
+};
+use crate::trail::{AnsweredCall, ProcessCall, Trail};
 use byte_out::make_alike;
 use std::alloc::Global;
 use std::fs::{self, File, Metadata, OpenFile, OpenOptions, TryLockError};
@@ -37,10 +39,10 @@ impl<'a, R: Files<File = File>> HostSystem<'a, R> {
     }
 
     // Notes a call of this process.
-    fn note(&mut self, call: Said<'_>)
+    fn note(&mut self, call: AnsweredCall<'_>)
         ensures { Took (call_said call.entry) (⟦<HostSystem<'a, R> as System>⟧.state self.old) (⟦<HostSystem<'a, R> as System>⟧.state self.new) }
     {
-        self.trail = self.trail.then(&Note { by: 0, call });
+        self.trail = self.trail.then(&ProcessCall { by: 0, call });
     }
 
     // The number of an open file.
@@ -85,14 +87,14 @@ fn write_to(file: &mut File, bytes: &[u8]) -> usize
 }
 
 // Whether the file gives exactly these bytes.
-fn gives(file: &mut File, bytes: &[u8]) -> Result<bool, ReadFault> {
+fn gives(file: &mut File, bytes: &[u8]) -> Result<bool, ReadToEndFault> {
     let mut rest = bytes;
     let mut chunk = [0; 4_096];
     for _ in 0..u64::MAX {
         let n = match file.read(&mut chunk) {
             Ok(n) => n,
             Err(error) if error.kind() == ErrorKind::Interrupted => continue,
-            Err(_) => return Err(ReadFault::Cut(bytes.len().saturating_sub(rest.len()))),
+            Err(_) => return Err(ReadToEndFault::Cut(bytes.len().saturating_sub(rest.len()))),
         };
         if n == 0 {
             return Ok(rest.is_empty());
@@ -129,15 +131,15 @@ impl<'a, R: Files<File = File>> HostSystem<'a, R> {
         make_alike(self.open.get(file)?, &old).ok()
     }
 
-    fn make_at(&mut self, path: &[u8], mode: Mode) -> Result<usize, MakeFault>
+    fn make_at(&mut self, path: &[u8], mode: Mode) -> Result<usize, MakeFileFault>
         ensures { self.new.trail ≡ self.old.trail }
     {
         let Ok(path) = str::from_utf8(path) else {
-            return Err(MakeFault::NotMade);
+            return Err(MakeFileFault::NotMade);
         };
         // Without room for its number, no file is made.
         if self.open.reserve(1).is_err() {
-            return Err(MakeFault::NotMade);
+            return Err(MakeFileFault::NotMade);
         }
         match OpenOptions::new()
             .append(true)
@@ -151,12 +153,12 @@ impl<'a, R: Files<File = File>> HostSystem<'a, R> {
     }
 
     // The number of a file that was made. One that gets none is removed.
-    fn number_made(&mut self, file: File, path: &str) -> Result<usize, MakeFault>
+    fn number_made(&mut self, file: File, path: &str) -> Result<usize, MakeFileFault>
         ensures { self.new.trail ≡ self.old.trail }
     {
         let Some(number) = self.number(file) else {
             let _ = fs::remove_file(self.rt, path);
-            return Err(MakeFault::NotMade);
+            return Err(MakeFileFault::NotMade);
         };
         Ok(number)
     }
@@ -186,14 +188,14 @@ impl<'a, R: Files<File = File>> HostSystem<'a, R> {
         }
     }
 
-    fn has_at(&self, path: &[u8], bytes: &[u8]) -> Result<bool, ReadFault> {
+    fn has_at(&self, path: &[u8], bytes: &[u8]) -> Result<bool, ReadToEndFault> {
         let Ok(path) = str::from_utf8(path) else {
-            return Err(ReadFault::NotOpened);
+            return Err(ReadToEndFault::NotOpened);
         };
         match fs::open(self.rt, path) {
             Ok(mut file) => gives(&mut file, bytes),
             Err(error) if error.kind() == ErrorKind::NotFound => Ok(false),
-            Err(_) => Err(ReadFault::NotOpened),
+            Err(_) => Err(ReadToEndFault::NotOpened),
         }
     }
 
@@ -214,19 +216,19 @@ impl<'a, R: Files<File = File>> HostSystem<'a, R> {
         }
     }
 
-    fn syncs_folder(&self, path: &[u8]) -> Result<(), FolderFault> {
+    fn syncs_folder(&self, path: &[u8]) -> Result<(), FolderSyncFault> {
         let Ok(path) = str::from_utf8(path) else {
-            return Err(FolderFault::NotOpened);
+            return Err(FolderSyncFault::NotOpened);
         };
         match fs::open(self.rt, folder(path)) {
             Ok(folder) => match folder.sync_all() {
                 Ok(()) => Ok(()),
-                Err(_) => Err(FolderFault::NotSynced),
+                Err(_) => Err(FolderSyncFault::NotSynced),
             },
             Err(error) if error.kind() == ErrorKind::PermissionDenied => {
-                Err(FolderFault::Forbidden)
+                Err(FolderSyncFault::Forbidden)
             }
-            Err(_) => Err(FolderFault::NotOpened),
+            Err(_) => Err(FolderSyncFault::NotOpened),
         }
     }
 }
@@ -237,82 +239,82 @@ impl<R: Files<File = File>> System for HostSystem<'_, R> {
     fn look(&mut self, path: &[u8]) -> Result<There, Failed> {
         match self.found_at(path) {
             Some(There::Nothing) => {
-                self.note(Said::Finds(path, false));
+                self.note(AnsweredCall::Finds(path, false));
                 Ok(There::Nothing)
             }
             Some(There::Sole) => {
-                self.note(Said::Finds(path, true));
+                self.note(AnsweredCall::Finds(path, true));
                 Ok(There::Sole)
             }
             Some(There::Shared) => {
-                self.note(Said::Finds(path, true));
+                self.note(AnsweredCall::Finds(path, true));
                 Ok(There::Shared)
             }
             Some(There::Other) => {
-                self.note(Said::Finds(path, true));
+                self.note(AnsweredCall::Finds(path, true));
                 Ok(There::Other)
             }
             None => {
-                self.note(Said::Fails);
+                self.note(AnsweredCall::Fails);
                 Err(Failed)
             }
         }
     }
 
-    fn make(&mut self, path: &[u8], mode: Mode) -> Result<usize, MakeFault> {
+    fn make(&mut self, path: &[u8], mode: Mode) -> Result<usize, MakeFileFault> {
         match self.make_at(path, mode) {
             Ok(file) => {
-                self.note(Said::Makes(path, Some(file)));
+                self.note(AnsweredCall::Makes(path, Some(file)));
                 Ok(file)
             }
-            Err(MakeFault::Exists) => {
-                self.note(Said::Makes(path, None));
-                Err(MakeFault::Exists)
+            Err(MakeFileFault::Exists) => {
+                self.note(AnsweredCall::Makes(path, None));
+                Err(MakeFileFault::Exists)
             }
-            Err(MakeFault::Forbidden) => {
-                self.note(Said::Fails);
-                Err(MakeFault::Forbidden)
+            Err(MakeFileFault::Forbidden) => {
+                self.note(AnsweredCall::Fails);
+                Err(MakeFileFault::Forbidden)
             }
-            Err(MakeFault::NotMade) => {
-                self.note(Said::Fails);
-                Err(MakeFault::NotMade)
+            Err(MakeFileFault::NotMade) => {
+                self.note(AnsweredCall::Fails);
+                Err(MakeFileFault::NotMade)
             }
         }
     }
 
     fn make_alike(&mut self, file: usize, path: &[u8]) -> Result<bool, Failed> {
         let Some(is_alike) = self.likens(file, path) else {
-            self.note(Said::Fails);
+            self.note(AnsweredCall::Fails);
             return Err(Failed);
         };
-        self.note(Said::Likens(file, path));
+        self.note(AnsweredCall::Likens(file, path));
         Ok(is_alike)
     }
 
     fn open(&mut self, path: &[u8]) -> Result<usize, Failed> {
         let Some(file) = self.open_at(path) else {
-            self.note(Said::Fails);
+            self.note(AnsweredCall::Fails);
             return Err(Failed);
         };
-        self.note(Said::Opens(path, file));
+        self.note(AnsweredCall::Opens(path, file));
         Ok(file)
     }
 
     fn lock(&mut self, file: usize) -> Result<bool, Failed> {
         let Some(is_locked) = self.is_locked(file) else {
-            self.note(Said::Fails);
+            self.note(AnsweredCall::Fails);
             return Err(Failed);
         };
-        self.note(Said::Locks(file, is_locked));
+        self.note(AnsweredCall::Locks(file, is_locked));
         Ok(is_locked)
     }
 
     fn is_named(&mut self, path: &[u8], file: usize) -> Result<bool, Failed> {
         let Some(is_named) = self.is_at(path, file) else {
-            self.note(Said::Fails);
+            self.note(AnsweredCall::Fails);
             return Err(Failed);
         };
-        self.note(Said::Looks(path, file, is_named));
+        self.note(AnsweredCall::Looks(path, file, is_named));
         Ok(is_named)
     }
 
@@ -321,7 +323,7 @@ impl<R: Files<File = File>> System for HostSystem<'_, R> {
             Some(file) => write_to(file, bytes),
             None => 0,
         };
-        self.note(Said::Writes(file, &bytes[..written]));
+        self.note(AnsweredCall::Writes(file, &bytes[..written]));
         written
     }
 
@@ -331,10 +333,10 @@ impl<R: Files<File = File>> System for HostSystem<'_, R> {
             None => false,
         };
         if !is_empty {
-            self.note(Said::Fails);
+            self.note(AnsweredCall::Fails);
             return Err(Failed);
         }
-        self.note(Said::Truncates(file));
+        self.note(AnsweredCall::Truncates(file));
         Ok(())
     }
 
@@ -344,21 +346,21 @@ impl<R: Files<File = File>> System for HostSystem<'_, R> {
             None => false,
         };
         if !is_synced {
-            self.note(Said::Fails);
+            self.note(AnsweredCall::Fails);
             return Err(Failed);
         }
-        self.note(Said::Syncs(file));
+        self.note(AnsweredCall::Syncs(file));
         Ok(())
     }
 
-    fn has(&mut self, path: &[u8], bytes: &[u8]) -> Result<bool, ReadFault> {
+    fn has(&mut self, path: &[u8], bytes: &[u8]) -> Result<bool, ReadToEndFault> {
         match self.has_at(path, bytes) {
             Ok(has) => {
-                self.note(Said::Compares(path, bytes, has));
+                self.note(AnsweredCall::Compares(path, bytes, has));
                 Ok(has)
             }
             Err(fault) => {
-                self.note(Said::Fails);
+                self.note(AnsweredCall::Fails);
                 Err(fault)
             }
         }
@@ -366,28 +368,28 @@ impl<R: Files<File = File>> System for HostSystem<'_, R> {
 
     fn rename(&mut self, from: &[u8], to: &[u8]) -> Result<(), RenameFault> {
         if let Err(fault) = self.renames(from, to) {
-            self.note(Said::Fails);
+            self.note(AnsweredCall::Fails);
             return Err(fault);
         }
-        self.note(Said::Renames(from, to));
+        self.note(AnsweredCall::Renames(from, to));
         Ok(())
     }
 
     fn unlink(&mut self, path: &[u8]) -> Result<(), Failed> {
         if !self.removes(path) {
-            self.note(Said::Fails);
+            self.note(AnsweredCall::Fails);
             return Err(Failed);
         }
-        self.note(Said::Unlinks(path));
+        self.note(AnsweredCall::Unlinks(path));
         Ok(())
     }
 
-    fn sync_folder(&mut self, path: &[u8]) -> Result<(), FolderFault> {
+    fn sync_folder(&mut self, path: &[u8]) -> Result<(), FolderSyncFault> {
         if let Err(fault) = self.syncs_folder(path) {
-            self.note(Said::Fails);
+            self.note(AnsweredCall::Fails);
             return Err(fault);
         }
-        self.note(Said::SyncsFolder(path));
+        self.note(AnsweredCall::SyncsFolder(path));
         Ok(())
     }
 }

@@ -11,4 +11,6 @@ mod trail;
 
 pub use host_system::HostSystem;
 pub use mem_system::{Act, Does, MemSystem};
-pub use system::{Failed, FolderFault, MakeFault, Mode, ReadFault, RenameFault, System, There};
+pub use system::{
+    Failed, FolderSyncFault, MakeFileFault, Mode, ReadToEndFault, RenameFault, System, There,
+};

@@ -1,7 +1,7 @@
 //! Standard error, where the end of a command is told.
 
 use clap::ArgMatches;
-use cli_exchange::faults::Named;
+use cli_exchange::faults::CommandFiles;
 use cli_outcome::Teller;
 use std::fmt;
 
@@ -10,7 +10,7 @@ use std::fmt;
 pub struct StandardError<'a, 'b> {
     pub rt: &'a HostRuntime,
     pub matches: &'a ArgMatches<'b>,
-    pub named: &'a Option<Named<'b>>,
+    pub named: &'a Option<CommandFiles<'b>>,
 }
 
 impl StandardError<'_, '_> {

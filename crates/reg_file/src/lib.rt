@@ -1,6 +1,7 @@
 //! Files of registers, summaries and pieces, read exactly; other bytes have a first fault, with its place.
 #![tactic(auto)]
 
+mod block;
 mod contents;
 mod fault;
 mod fields;

@@ -6,7 +6,7 @@ use Rattle.byte_out.specs.declared.fault.ReplaceFault.{ReplaceFault}
 use Rattle.byte_out.specs.declared.fault.ReplaceFault.TheVariants as replaced
 use Rattle.byte_office.specs.Noting.{IsUnnotedIf}
 use Rattle.byte_office.specs.Replacing.{IsLate, IsUnreplaced}
-use Rattle.byte_office.specs.declared.fault.NoteFault.TheVariants as note
+use Rattle.byte_office.specs.declared.fault.OfficeFileFault.TheVariants as note
 use Rattle.byte_office.specs.declared.fault.UnreplacedFault.{UnreplacedFault}
 use Rattle.byte_office.specs.declared.fault.UnreplacedFault.TheVariants as unreplaced
 use Rattle.reg_op.specs.Contents.{Content}

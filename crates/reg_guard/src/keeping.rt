@@ -4,13 +4,13 @@ ghost use Rattle.std.specs.Prelude.{◌≡◌, IfOk, OnOk, IfErr, ◌⊎◌, is_
 ghost use Rattle.reg_op.specs.Contents.{Content};
 ghost use Rattle.reg_engine.specs.Shelf.{disks, Has, IsSure};
 ghost use Rattle.reg_engine.specs.declared.fault.CliFault.TheVariants as cli;
-ghost use Rattle.byte_office.specs.declared.fault.NoteFault.TheVariants as note;
+ghost use Rattle.byte_office.specs.declared.fault.OfficeFileFault.TheVariants as note;
 ghost use Rattle.reg_journal.specs.Adding.{landed};
 ghost use Rattle.reg_journal.specs.Text.{HoldsOffice, IsOfficeTooLarge};
 ghost use Rattle.reg_guard.specs.Keeping.{if_changed, is_first, PublishesAfter, IsUnpublishedAfter, KeepsAfter, IsUnkeptAfter, Tells, Tries, unkept_fault};
 
 use byte_disk::Disk;
-use byte_office::{NoteFault, UnreplacedFault, put_changed, replace_after};
+use byte_office::{OfficeFileFault, UnreplacedFault, put_changed, replace_after};
 use byte_out::{Place, replace};
 use reg_engine::{CliFault, OutFault, put_on, ready_on};
 use reg_file::{WriteFileFault, write_bytes};
@@ -99,7 +99,7 @@ fn office_text(alloc: Global, next: &OfficeFile) -> Result<Vec<u8>, CliFault>
 {
     match next.to_bytes(alloc) {
         Ok(text) => Ok(text),
-        Err(WriteFileFault::TooLarge) => Err(CliFault::Office(NoteFault::TooLarge)),
+        Err(WriteFileFault::TooLarge) => Err(CliFault::Office(OfficeFileFault::TooLarge)),
         Err(_) => Err(CliFault::Memory),
     }
 }

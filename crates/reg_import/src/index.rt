@@ -17,16 +17,16 @@ use std::collections::BTreeMap;
 
 /// The bytes of a key's authority and code, which order keys.
 #[derive(PartialEq, Eq, PartialOrd, Ord, Drop)]
-pub struct KeyText {
+pub struct OwnedKeyText {
     pub authority: Vec<u8>,
     pub code: Vec<u8>,
 }
 
 /// The bytes of a key.
-pub fn text_of(alloc: Global, key: &Key) -> Result<KeyText, AllocError>
+pub fn text_of(alloc: Global, key: &Key) -> Result<OwnedKeyText, AllocError>
     ensures { IfOk result (λ text. key_bytes text ≡ bytes_of key.now) }
 {
-    Ok(KeyText {
+    Ok(OwnedKeyText {
         authority: Vec::from_slice(alloc, key.authority.as_bytes())?,
         code: Vec::from_slice(alloc, key.code.as_bytes())?,
     })
@@ -35,8 +35,8 @@ pub fn text_of(alloc: Global, key: &Key) -> Result<KeyText, AllocError>
 /// Removes the bucket of a key.
 pub fn take(
     alloc: Global,
-    index: &mut BTreeMap<KeyText, EntriesOfKey>,
-    key: &KeyText,
+    index: &mut BTreeMap<OwnedKeyText, EntriesOfKey>,
+    key: &OwnedKeyText,
 ) -> EntriesOfKey
     ensures found { (at : At) → Indexes index.old at → bucket_seen result ≡ at (key_bytes key.now) }
     ensures rest { (at : At) → Indexes index.old at → Indexes index.new (with_key (key_bytes key.now) nothing_there at) }
@@ -49,8 +49,8 @@ pub fn take(
 
 /// Inserts the bucket of a key.
 pub fn put(
-    index: &mut BTreeMap<KeyText, EntriesOfKey>,
-    key: KeyText,
+    index: &mut BTreeMap<OwnedKeyText, EntriesOfKey>,
+    key: OwnedKeyText,
     bucket: EntriesOfKey,
 ) -> Result<(), AllocError>
     ensures { OnOk result ((at : At) → Indexes index.old at → Indexes index.new (with_key (key_bytes key) (bucket_seen bucket) at)) }
@@ -62,7 +62,7 @@ pub fn put(
 // Inserts an entry.
 fn put_known(
     alloc: Global,
-    index: &mut BTreeMap<KeyText, EntriesOfKey>,
+    index: &mut BTreeMap<OwnedKeyText, EntriesOfKey>,
     entry: StandingEntry,
 ) -> Result<(), AllocError>
     ensures { OnOk result ((at : At) → Indexes index.old at → Indexes index.new (with_entry entry at)) }
@@ -76,7 +76,10 @@ fn put_known(
 }
 
 // The index of the entries of rows.
-fn index_of_rows(alloc: Global, rows: &[Row]) -> Result<BTreeMap<KeyText, EntriesOfKey>, AllocError>
+fn index_of_rows(
+    alloc: Global,
+    rows: &[Row],
+) -> Result<BTreeMap<OwnedKeyText, EntriesOfKey>, AllocError>
     ensures { IfOk result (λ index. (es : List StandingEntry) × AreKnown (map row_seen rows.now) es × Indexes index (by_key es)) }
 {
     let mut index = BTreeMap::new(alloc);
@@ -93,7 +96,7 @@ fn index_of_rows(alloc: Global, rows: &[Row]) -> Result<BTreeMap<KeyText, Entrie
 pub fn index_of(
     alloc: Global,
     register: &Register,
-) -> Result<BTreeMap<KeyText, EntriesOfKey>, AllocError>
+) -> Result<BTreeMap<OwnedKeyText, EntriesOfKey>, AllocError>
     ensures { IfOk result (λ index. (es : List StandingEntry) × AreStanding register.now.ops es × Indexes index (by_key es)) }
 {
     let rows = standing(alloc, register)?;

@@ -10,7 +10,7 @@ ghost use Rattle.reg_import.specs.Plans.{StepsOn, StepTold, Lists, Plans};
 
 use crate::action::{Differs, Problem, TextAction, told_of};
 use crate::entries_of_key::EntriesOfKey;
-use crate::index::{KeyText, index_of, put, take, text_of};
+use crate::index::{OwnedKeyText, index_of, put, take, text_of};
 use crate::making::{count_of, push_ops};
 use crate::packed_action::PackedAction;
 use crate::reading::{FileText, ReadText};
@@ -44,8 +44,8 @@ pub struct Rules<'a> {
 
 /// The state of an import: the entries of each key, and the operations so far.
 #[derive(Drop)]
-pub struct Made {
-    pub index: BTreeMap<KeyText, EntriesOfKey>,
+pub struct ImportState {
+    pub index: BTreeMap<OwnedKeyText, EntriesOfKey>,
     pub ops: Vec<Op>,
 }
 
@@ -99,7 +99,7 @@ fn then_of(
 }
 
 // The number of the next operation.
-fn count_after(rules: &Rules<'_>, made: &Made) -> u64
+fn count_after(rules: &Rules<'_>, made: &ImportState) -> u64
     requires { rules.now.first + length made.now.ops.items ≤ 4294967296 }
     ensures { result ≡ rules.now.first + length made.now.ops.items }
 {
@@ -116,7 +116,7 @@ fn spelled(alloc: Global, definition: &Definition) -> Result<Vec<u8>, AllocError
 fn step_defined(
     alloc: Global,
     rules: &Rules<'_>,
-    made: &mut Made,
+    made: &mut ImportState,
     definition: &Definition,
     key: &Key,
 ) -> Result<TextAction, AllocError>
@@ -158,7 +158,7 @@ fn push_action(told: &mut Vec<PackedAction>, action: TextAction) -> Result<(), A
 fn step(
     alloc: Global,
     rules: &Rules<'_>,
-    made: &mut Made,
+    made: &mut ImportState,
     reading: &ReadText,
     told: &mut Vec<PackedAction>,
 ) -> Result<(), AllocError>
@@ -184,7 +184,7 @@ fn step(
 // Imports one text after another.
 fn plan_over(
     alloc: Global,
-    index: BTreeMap<KeyText, EntriesOfKey>,
+    index: BTreeMap<OwnedKeyText, EntriesOfKey>,
     rules: &Rules<'_>,
     texts: &[FileText],
 ) -> Result<Plan, AllocError>
@@ -197,13 +197,13 @@ fn plan_over(
 {
     let mut told = Vec::with_capacity(alloc, texts.len())?;
     let ops = Vec::new(alloc);
-    let mut made = Made { index, ops };
+    let mut made = ImportState { index, ops };
     let mut rest = texts;
     while let Some((text, others)) = rest.split_first() {
         step(alloc, rules, &mut made, &text.reading, &mut told)?;
         rest = others;
     }
-    let Made { index: _, ops } = made;
+    let ImportState { index: _, ops } = made;
     Ok(Plan { told, ops })
 }
 

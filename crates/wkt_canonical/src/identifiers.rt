@@ -7,7 +7,7 @@ ghost use Rattle.wkt_canonical.specs.Reads.{ReadsEach, ReadsMaybe, ReadsOne, Rea
 
 use crate::front::{behind, opens};
 use crate::leaves::{code, code_behind_comma, content, text};
-use crate::node::{Node, each};
+use crate::node::{CanonicalNode, each};
 use crate::values::maybe_value;
 use crs_part::{Ident, Named};
 use wkt_grammar::Keyword;
@@ -44,7 +44,7 @@ pub(crate) fn identifiers(bytes: &[u8]) -> Option<(Option<Identifier<'_>>, &[u8]
     Some((Some(first), rest))
 }
 
-impl Node for Ident {
+impl CanonicalNode for Ident {
     ghost tree = { ident_tree };
 
     ghost test = { any };
@@ -82,7 +82,7 @@ fn named(bytes: &[u8]) -> Option<&[u8]>
 }
 
 /// A member of an ensemble.
-impl Node for Named {
+impl CanonicalNode for Named {
     ghost tree = { named_tree keywords.Member };
 
     ghost test = { any };

@@ -17,5 +17,5 @@ mod values;
 mod words;
 
 pub use canonical::{is_canonical, recognize};
-pub use crs::Seen;
+pub use crs::SeenSystem;
 pub use identifiers::Identifier;

@@ -1,5 +1,5 @@
 use Rattle.std.proofs.Common.{◌≡◌, ◌++◌, ◌∷◌, ◌∙◌, [], rules}
-use Rattle.byte_system.specs.declared.entries.Name.TheVariants as name
+use Rattle.byte_system.specs.declared.entries.NameChange.TheVariants as name
 use Rattle.byte_system.proofs.EntryLemmas.{name_more, move_more}
 use Rattle.byte_system.proofs.entries.move_name.Goals as goal
 
