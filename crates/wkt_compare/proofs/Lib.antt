@@ -1,3 +1,5 @@
 pub mod LineLemmas
 mod StepLemmas
+mod SharedLemmas
+mod TableLemmas
 mod HunkLemmas
