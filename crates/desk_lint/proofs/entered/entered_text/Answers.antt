@@ -1,5 +1,5 @@
 use Rattle.std.proofs.Common.{◌≡◌, List, ap, false, subst, ◌∙◌}
-use Rattle.reg_lint.specs.declared.subject.Subject.{Subject}
+use Rattle.reg_lint.specs.Subjects.{Subject}
 use Rattle.reg_lint.specs.Lines.{lint_sheet}
 use Rattle.desk_lint.specs.Entered.{if_rows}
 use Rattle.desk_lint.proofs.entered.entered_text.Goals as goal

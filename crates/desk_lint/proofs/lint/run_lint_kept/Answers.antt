@@ -2,7 +2,7 @@ use Rattle.std.proofs.Common.{ℕ, List, refl, ap, ◌∙◌, inl, inr, subst}
 use Rattle.byte_io.specs.Whole.{WritesAll, IsCutAt}
 use Rattle.reg_lint.specs.Lines.{has_rows}
 use Rattle.desk_lint.specs.Lint.{IsLintOf}
-use Rattle.desk_lint.proofs.lint.run_lint_subjects.Goals as goal
+use Rattle.desk_lint.proofs.lint.run_lint_kept.Goals as goal
 
 pub returns-in-Err-lint_beside-clause-fault : goal.returns-in-Err-lint_beside-clause-fault
 returns-in-Err-lint_beside-clause-fault g c = inr (c.in-Ok.bytes.items, c.in-Ok.ensures.gives, c.in-Ok.ensures.headed, inl (refl, refl))

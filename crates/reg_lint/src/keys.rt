@@ -1,4 +1,4 @@
-//! What is looked at: reference systems, each with what names it in rows.
+//! The keys of reference systems.
 
 ghost use Rattle.std.specs.Prelude.{◌≡◌, IfOk};
 ghost use Rattle.crs_part.specs.Slots.{ids_of};
@@ -9,13 +9,6 @@ use crs_exact::number;
 use crs_part::NumberOrText;
 use crs_value::Crs;
 use std::alloc::{AllocError, Global};
-
-/// A reference system, with what names it in rows: the id of an entry, or a file and an offset.
-#[derive(Drop)]
-pub struct Subject {
-    pub label: Vec<u8>,
-    pub crs: Crs,
-}
 
 /// The authority of the first identifier, or nothing.
 pub(crate) fn authority_of(crs: &Crs) -> &[u8]
