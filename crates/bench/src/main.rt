@@ -21,7 +21,7 @@ use std::{env, io};
 
 /// An allocation failed, or there is no such value.
 #[derive(Clone, Copy, Debug)]
-pub struct Refused;
+pub struct BenchFault;
 
 fn main(rt: HostRuntime) -> io::Result<()> {
     let words: Vec<String> = env::args(&rt)?.collect(rt.alloc())?;

@@ -1,6 +1,6 @@
 //! Registers of many operations, some of which replace others.
 
-use crate::Refused;
+use crate::BenchFault;
 use reg_op::{Note, Op, OpBody, OpId};
 use reg_state::{Join, Register};
 use std::alloc::Global;
@@ -13,15 +13,15 @@ const TEXT: &[u8] =
 const REPLICAS: u32 = 21;
 
 /// The definition that all entries of these registers share.
-pub fn shared_definition(alloc: Global) -> Result<Definition, Refused> {
+pub fn shared_definition(alloc: Global) -> Result<Definition, BenchFault> {
     match Definition::from_canonical(alloc, TEXT) {
         Ok(definition) => Ok(definition),
-        Err(_) => Err(Refused),
+        Err(_) => Err(BenchFault),
     }
 }
 
 /// The operations of two thirds of the replicas: those whose number modulo three is not `left_out`.
-pub fn side(alloc: Global, size: u32, left_out: u32) -> Result<Register, Refused> {
+pub fn side(alloc: Global, size: u32, left_out: u32) -> Result<Register, BenchFault> {
     let definition = shared_definition(alloc)?;
     let own = size / 14;
     let mut all = Register::new(alloc);
@@ -30,7 +30,7 @@ pub fn side(alloc: Global, size: u32, left_out: u32) -> Result<Register, Refused
             let replica = Uuid::from_u128(number as u128);
             let part = part_of(alloc, &definition, replica, 1, own)?;
             let Ok(joined) = all.join(alloc, &part) else {
-                return Err(Refused);
+                return Err(BenchFault);
             };
             all = joined;
         }
@@ -45,7 +45,7 @@ fn part_of(
     replica: Uuid,
     first: u32,
     count: u32,
-) -> Result<Register, Refused> {
+) -> Result<Register, BenchFault> {
     if count < 10 {
         return few(alloc, definition, replica, first, count);
     }
@@ -60,7 +60,7 @@ fn part_of(
     )?;
     match left.join(alloc, &right) {
         Ok(joined) => Ok(joined),
-        Err(_) => Err(Refused),
+        Err(_) => Err(BenchFault),
     }
 }
 
@@ -70,21 +70,26 @@ fn few(
     replica: Uuid,
     first: u32,
     count: u32,
-) -> Result<Register, Refused> {
+) -> Result<Register, BenchFault> {
     let mut register = Register::new(alloc);
     for k in 0..count {
         let op = op_of(alloc, definition, replica, first.saturating_add(k))?;
         if let Err(_) = register.take(op) {
-            return Err(Refused);
+            return Err(BenchFault);
         }
     }
     Ok(register)
 }
 
 // Of ten operations, seven enter, two supersede, and one retires the entry that was superseded first.
-fn op_of(alloc: Global, definition: &Definition, replica: Uuid, count: u32) -> Result<Op, Refused> {
+fn op_of(
+    alloc: Global,
+    definition: &Definition,
+    replica: Uuid,
+    count: u32,
+) -> Result<Op, BenchFault> {
     let block = count / 10 * 10;
-    let entry = |k: u32| OpId::new(replica, block.saturating_add(k)).ok_or(Refused);
+    let entry = |k: u32| OpId::new(replica, block.saturating_add(k)).ok_or(BenchFault);
     let body = match count % 10 {
         7 => OpBody::Supersede {
             old: entry(1)?,
@@ -97,15 +102,15 @@ fn op_of(alloc: Global, definition: &Definition, replica: Uuid, count: u32) -> R
         9 => OpBody::Retire { entry: entry(1)? },
         _ => match definition.try_clone(alloc) {
             Ok(copy) => OpBody::Enter(copy),
-            Err(_) => return Err(Refused),
+            Err(_) => return Err(BenchFault),
         },
     };
     match Op::new(
-        OpId::new(replica, count).ok_or(Refused)?,
+        OpId::new(replica, count).ok_or(BenchFault)?,
         body,
         Note::empty(),
     ) {
         Ok(op) => Ok(op),
-        Err(_) => Err(Refused),
+        Err(_) => Err(BenchFault),
     }
 }

@@ -2,13 +2,13 @@
 
 use crate::making::side;
 use crate::work::{contents, copies, joins};
-use crate::{Refused, count_of, number};
+use crate::{BenchFault, count_of, number};
 use std::alloc::Global;
 use std::io;
 
 // The numbers of operations in the left register, the right one, and all results.
 #[derive(Clone, Copy)]
-struct Counts {
+struct JoinCounts {
     left: usize,
     right: usize,
     joined: u64,
@@ -24,7 +24,7 @@ pub fn run(rt: &HostRuntime, words: &[String]) -> io::Result<()> {
     }
 }
 
-fn print(rt: &HostRuntime, counts: Counts) -> io::Result<()> {
+fn print(rt: &HostRuntime, counts: JoinCounts) -> io::Result<()> {
     println!(rt;
         "{} operations are kept left, {} right",
         counts.left, counts.right
@@ -34,11 +34,11 @@ fn print(rt: &HostRuntime, counts: Counts) -> io::Result<()> {
     println!(rt; "{} in all copies of the left", counts.copied)
 }
 
-fn counted(alloc: Global, words: &[String]) -> Result<Counts, Refused> {
+fn counted(alloc: Global, words: &[String]) -> Result<JoinCounts, BenchFault> {
     let size = number(words, 2, 140);
     let left = side(alloc, size, 0)?;
     let right = side(alloc, size, 2)?;
-    Ok(Counts {
+    Ok(JoinCounts {
         left: count_of(&left),
         right: count_of(&right),
         joined: joins(alloc, &left, &right, number(words, 3, 1))?,

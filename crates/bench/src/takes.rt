@@ -1,7 +1,7 @@
 //! Takes operations one at a time.
 
 use crate::making::shared_definition;
-use crate::{Refused, count_of, number};
+use crate::{BenchFault, count_of, number};
 use reg_op::{Note, Op, OpBody, OpId};
 use reg_state::Register;
 use std::alloc::Global;
@@ -16,13 +16,13 @@ pub fn run(rt: &HostRuntime, words: &[String]) -> io::Result<()> {
     }
 }
 
-fn kept(alloc: Global, words: &[String]) -> Result<usize, Refused> {
+fn kept(alloc: Global, words: &[String]) -> Result<usize, BenchFault> {
     let entries = number(words, 2, 10);
     let definition = shared_definition(alloc)?;
     let mut register = Register::new(alloc);
     for k in 0..entries {
         let Ok(copy) = definition.try_clone(alloc) else {
-            return Err(Refused);
+            return Err(BenchFault);
         };
         take(&mut register, 1, k, OpBody::Enter(copy))?;
     }
@@ -38,16 +38,16 @@ fn kept(alloc: Global, words: &[String]) -> Result<usize, Refused> {
     Ok(count_of(&register))
 }
 
-fn take(register: &mut Register, replica: u32, k: u32, body: OpBody) -> Result<(), Refused> {
+fn take(register: &mut Register, replica: u32, k: u32, body: OpBody) -> Result<(), BenchFault> {
     let Ok(op) = Op::new(id_of(replica, k)?, body, Note::empty()) else {
-        return Err(Refused);
+        return Err(BenchFault);
     };
     match register.take(op) {
         Ok(()) => Ok(()),
-        Err(_) => Err(Refused),
+        Err(_) => Err(BenchFault),
     }
 }
 
-fn id_of(replica: u32, k: u32) -> Result<OpId, Refused> {
-    OpId::new(Uuid::from_u128(replica as u128), k.saturating_add(1)).ok_or(Refused)
+fn id_of(replica: u32, k: u32) -> Result<OpId, BenchFault> {
+    OpId::new(Uuid::from_u128(replica as u128), k.saturating_add(1)).ok_or(BenchFault)
 }

@@ -44,13 +44,13 @@ impl Work {
 }
 
 #[derive(Clone, Copy)]
-struct Counts {
+struct TextCounts {
     written: usize,
     refused: usize,
     bytes: usize,
 }
 
-const NONE: Counts = Counts {
+const NONE: TextCounts = TextCounts {
     written: 0,
     refused: 0,
     bytes: 0,
@@ -105,7 +105,7 @@ fn lines_of<'a>(alloc: Global, file: &'a [u8]) -> Result<Vec<&'a [u8]>, AllocErr
     Ok(lines)
 }
 
-fn do_all(alloc: Global, texts: &[&[u8]], work: Work) -> Result<Counts, AllocError> {
+fn do_all(alloc: Global, texts: &[&[u8]], work: Work) -> Result<TextCounts, AllocError> {
     let mut counts = NONE;
     for text in texts {
         match written(alloc, *text, work)? {

@@ -2,17 +2,22 @@
 
 ghost use Rattle.std.specs.Prelude.{◌≡◌, IfOk};
 
-use crate::{Refused, count_of};
+use crate::{BenchFault, count_of};
 use reg_op::Op;
 use reg_state::{Join, Register};
 use std::alloc::{AllocError, Global};
 
 /// Joins two registers `times` times, and counts the operations of all joins.
-pub fn joins(alloc: Global, left: &Register, right: &Register, times: u32) -> Result<u64, Refused> {
+pub fn joins(
+    alloc: Global,
+    left: &Register,
+    right: &Register,
+    times: u32,
+) -> Result<u64, BenchFault> {
     let mut count = 0u64;
     for _ in 0..times {
         let Ok(joined) = left.join(alloc, right) else {
-            return Err(Refused);
+            return Err(BenchFault);
         };
         count = count.saturating_add(count_of(&joined) as u64);
     }
@@ -20,7 +25,7 @@ pub fn joins(alloc: Global, left: &Register, right: &Register, times: u32) -> Re
 }
 
 /// Rebuilds a register from its content `times` times, and counts the operations.
-pub fn contents(alloc: Global, register: &Register, times: u32) -> Result<u64, Refused> {
+pub fn contents(alloc: Global, register: &Register, times: u32) -> Result<u64, BenchFault> {
     let mut count = 0u64;
     for _ in 0..times {
         let made = anew(alloc, register)?;
@@ -30,11 +35,11 @@ pub fn contents(alloc: Global, register: &Register, times: u32) -> Result<u64, R
 }
 
 /// Copies a register `times` times, and counts the operations.
-pub fn copies(alloc: Global, register: &Register, times: u32) -> Result<u64, Refused> {
+pub fn copies(alloc: Global, register: &Register, times: u32) -> Result<u64, BenchFault> {
     let mut count = 0u64;
     for _ in 0..times {
         let Ok(copy) = register.try_clone(alloc) else {
-            return Err(Refused);
+            return Err(BenchFault);
         };
         count = count.saturating_add(count_of(&copy) as u64);
     }
@@ -42,16 +47,16 @@ pub fn copies(alloc: Global, register: &Register, times: u32) -> Result<u64, Ref
 }
 
 // A register with the same content.
-fn anew(alloc: Global, register: &Register) -> Result<Register, Refused> {
+fn anew(alloc: Global, register: &Register) -> Result<Register, BenchFault> {
     let Ok(ops) = all_of(alloc, register.ops().as_slice()) else {
-        return Err(Refused);
+        return Err(BenchFault);
     };
     let Ok(seen) = register.seen().try_clone(alloc) else {
-        return Err(Refused);
+        return Err(BenchFault);
     };
     match Register::from_content(alloc, ops, seen) {
         Ok(made) => Ok(made),
-        Err(_) => Err(Refused),
+        Err(_) => Err(BenchFault),
     }
 }
 

@@ -7,7 +7,7 @@ use Rattle.byte_disk.specs.Disk.{Torn, Follows}
 use Rattle.byte_disk.specs.Record.{overlaid, applied, Reaches, SpanLeaves, IsNoted, IsSameSpan, IsWhole, Grows}
 use Rattle.byte_disk.specs.RecordLaws.{torn_none}
 use Rattle.byte_disk.specs.declared.span.Write.{Write}
-use Rattle.byte_disk.specs.declared.span.Span.{Span}
+use Rattle.byte_disk.specs.declared.span.SinceSync.{SinceSync}
 
 -- what holds at `Ok` holds, or what holds at `Err` does
 pub either_way : {T E : Type 0} {P Q : Type 0} (r : Result T E) → OnOk r P → OnErr r Q → P ⊎ Q
@@ -31,7 +31,7 @@ applied_push : (base : List ℕ) (writes : List Write) (w : Write) → applied b
 applied_push base [] w = refl
 applied_push base (v ∷ writes) w = applied_push (step v.done v.at v.bytes.items base) writes w
 
-pub whole_noted : (content next : List ℕ) (at : ℕ) (bytes : List ℕ) (done : Bool) (old new : Span) → IsNoted at bytes done old new
+pub whole_noted : (content next : List ℕ) (at : ℕ) (bytes : List ℕ) (done : Bool) (old new : SinceSync) → IsNoted at bytes done old new
     → next ≡ (if done then overlaid content at bytes else content) → IsWhole content old → IsWhole next new
 whole_noted content next at bytes done old new noted is whole =
     is ∙ ap (λ (s : List ℕ). step done at bytes s) whole
@@ -42,17 +42,17 @@ whole_noted content next at bytes done old new noted is whole =
     ∙ ap (λ (ws : List Write). applied old.base.items ws) (sym noted.added)
     ∙ ap (λ (base : List ℕ). applied base new.writes.items) (sym noted.same_base)
 
-pub whole_same : (content : List ℕ) (old new : Span) → IsSameSpan old new → IsWhole content old → IsWhole content new
+pub whole_same : (content : List ℕ) (old new : SinceSync) → IsSameSpan old new → IsWhole content old → IsWhole content new
 whole_same content old new same whole =
     whole ∙ ap (λ (ws : List Write). applied old.base.items ws) (sym same.same_writes) ∙ ap (λ (base : List ℕ). applied base new.writes.items) (sym same.same_base)
 
-pub grows_noted : (at : ℕ) (bytes : List ℕ) (done : Bool) (old new : Span) → IsNoted at bytes done old new → Grows at (length bytes) old new
+pub grows_noted : (at : ℕ) (bytes : List ℕ) (done : Bool) (old new : SinceSync) → IsNoted at bytes done old new → Grows at (length bytes) old new
 grows_noted at bytes done old new noted = record {
   same_base = noted.same_base;
   writes = inr (noted.write, noted.place, ap (λ (bs : List ℕ). length bs) noted.same_bytes, noted.added);
 }
 
-pub grows_same : (at n : ℕ) (old new : Span) → IsSameSpan old new → Grows at n old new
+pub grows_same : (at n : ℕ) (old new : SinceSync) → IsSameSpan old new → Grows at n old new
 grows_same at n old new same = record { same_base = same.same_base; writes = inl same.same_writes }
 
 reach_before : (base : List ℕ) (writes : List Write) (w : Write) (c : List ℕ) → Reaches base (writes ++ w ∷ []) c → (d : List ℕ) × Reaches base writes d × Torn w.at (length w.bytes.items) d c
@@ -66,15 +66,15 @@ reach_after base [] w c d is torn = (c, subst (λ (s : List ℕ). Torn w.at (len
 reach_after base (v ∷ writes) w c d (e, first, rest) torn = (e, first, reach_after e writes w c d rest torn)
 
 -- the bytes that a stop in a span may leave, by the base and the writes of the span
-leaves_by : (old new : Span) (writes : List Write) (c : List ℕ) → new.base.items ≡ old.base.items → new.writes.items ≡ writes → Reaches old.base.items writes c → SpanLeaves new c
+leaves_by : (old new : SinceSync) (writes : List Write) (c : List ℕ) → new.base.items ≡ old.base.items → new.writes.items ≡ writes → Reaches old.base.items writes c → SpanLeaves new c
 leaves_by old new writes c base is reached =
     subst (λ (b : List ℕ). Reaches b new.writes.items c) (sym base) (subst (λ (ws : List Write). Reaches old.base.items ws c) (sym is) reached)
 
-left_by : (old new : Span) (writes : List Write) (c : List ℕ) → new.base.items ≡ old.base.items → new.writes.items ≡ writes → SpanLeaves new c → Reaches old.base.items writes c
+left_by : (old new : SinceSync) (writes : List Write) (c : List ℕ) → new.base.items ≡ old.base.items → new.writes.items ≡ writes → SpanLeaves new c → Reaches old.base.items writes c
 left_by old new writes c base is left =
     subst (λ (ws : List Write). Reaches old.base.items ws c) is (subst (λ (b : List ℕ). Reaches b new.writes.items c) base left)
 
-pub grown_follows : (at n : ℕ) (old new : Span) → Grows at n old new → Follows (Torn at n) (λ c. SpanLeaves old c) (λ c. SpanLeaves new c)
+pub grown_follows : (at n : ℕ) (old new : SinceSync) → Grows at n old new → Follows (Torn at n) (λ c. SpanLeaves old c) (λ c. SpanLeaves new c)
 grown_follows at n old new grows c left = elim grows.writes [
   | inl same ↦ (c, left_by old new old.writes.items c grows.same_base same left, torn_none at n c)
   | inr more ↦
@@ -82,7 +82,7 @@ grown_follows at n old new grows c left = elim grows.writes [
       (from.0, from.1, subst (λ (m : ℕ). Torn at m from.0 c) more.2 (subst (λ (a : ℕ). Torn a (length more.0.bytes.items) from.0 c) more.1 from.2))
 ]
 
-pub grown_stays : (at n : ℕ) (old new : Span) → Grows at n old new → (c : List ℕ) → SpanLeaves old c → SpanLeaves new c
+pub grown_stays : (at n : ℕ) (old new : SinceSync) → Grows at n old new → (c : List ℕ) → SpanLeaves old c → SpanLeaves new c
 grown_stays at n old new grows c left = elim grows.writes [
   | inl same ↦ leaves_by old new old.writes.items c grows.same_base same left
   | inr more ↦ leaves_by old new (old.writes.items ++ more.0 ∷ []) c grows.same_base more.3

@@ -6,14 +6,14 @@ use Rattle.byte_disk.specs.Disk.{Elapses}
 use Rattle.byte_disk.specs.Record.{applied, Reaches, SpanLeaves, WasLeft, are_before, IsWhole, HasBegun}
 use Rattle.byte_disk.specs.RecordLaws.{reaches_applied}
 use Rattle.byte_disk.specs.declared.span.Write.{Write}
-use Rattle.byte_disk.specs.declared.span.Span.{Span}
+use Rattle.byte_disk.specs.declared.span.SinceSync.{SinceSync}
 use Rattle.byte_disk.specs.declared.span.Past.{Past}
 
 -- the bytes that a stop at the moment t or later might have left
-abbrev pub Since : Span → List Past → ℕ → List ℕ → Type 0
+abbrev pub Since : SinceSync → List Past → ℕ → List ℕ → Type 0
 Since span past t c = SpanLeaves span c ⊎ WasLeft past t c
 
-pub elapses_grown : (old new : Span) (past : List Past) (before now : ℕ) → before < now → ((c : List ℕ) → SpanLeaves old c → SpanLeaves new c)
+pub elapses_grown : (old new : SinceSync) (past : List Past) (before now : ℕ) → before < now → ((c : List ℕ) → SpanLeaves old c → SpanLeaves new c)
     → Elapses before now (Since old past) (Since new past) (λ c. SpanLeaves new c)
 elapses_grown old new past before now later stays = record {
   later = later;
@@ -36,7 +36,7 @@ last_was : (past : List Past) (p : Past) (t : ℕ) (c : List ℕ) → t ≤ p.la
 last_was [] p t c le left = inl (le, left)
 last_was (q ∷ past) p t c le left = inr (last_was past p t c le left)
 
-module _ (base : List ℕ) (last now : ℕ) (old new : Span) (past past' : List Past) (begun : HasBegun base last old new past past') where
+module _ (base : List ℕ) (last now : ℕ) (old new : SinceSync) (past past' : List Past) (begun : HasBegun base last old new past past') where
   pub begun_whole : IsWhole base new
   begun_whole = sym (ap (λ (ws : List Write). applied new.base.items ws) begun.new_writes ∙ begun.new_base)
 
@@ -50,9 +50,9 @@ module _ (base : List ℕ) (last now : ℕ) (old new : Span) (past past' : List 
   elapses_begun later = record {
     later = later;
     nothing_else = λ t c le left. ⊎_elim (λ here. inr here)
-        (λ was. inl (⊎_elim (λ had. inr had) (λ there. inl (subst (λ (s : Span). SpanLeaves s c) begun.span there.1)) (was_before past begun.ended t c (subst (λ (ps : List Past). WasLeft ps t c) begun.added was)))) left;
+        (λ was. inl (⊎_elim (λ had. inr had) (λ there. inl (subst (λ (s : SinceSync). SpanLeaves s c) begun.span there.1)) (was_before past begun.ended t c (subst (λ (ps : List Past). WasLeft ps t c) begun.added was)))) left;
     keeps = λ t c le left. inr (subst (λ (ps : List Past). WasLeft ps t c) (sym begun.added) (⊎_elim
-        (λ here. last_was past begun.ended t c (omega (arith, le, begun.when)) (subst (λ (s : Span). SpanLeaves s c) (sym begun.span) here))
+        (λ here. last_was past begun.ended t c (omega (arith, le, begun.when)) (subst (λ (s : SinceSync). SpanLeaves s c) (sym begun.span) here))
         (stays_was past begun.ended t c) left));
   }
 
@@ -68,6 +68,6 @@ ordered_push (q ∷ past) p now le ordered =
     let both = and_parts (nat_lt q.last.count now) (are_before past now) ordered in
     and_from (nat_lt q.last.count now) (are_before (past ++ p ∷ []) now) both.0 (ordered_push past p now le both.1)
 
-pub ordered_begun : (base : List ℕ) (last now : ℕ) (old new : Span) (past past' : List Past) → HasBegun base last old new past past' → last < now → IsTrue (are_before past last) → IsTrue (are_before past' now)
+pub ordered_begun : (base : List ℕ) (last now : ℕ) (old new : SinceSync) (past past' : List Past) → HasBegun base last old new past past' → last < now → IsTrue (are_before past last) → IsTrue (are_before past' now)
 ordered_begun base last now old new past past' begun later ordered =
     subst (λ (ps : List Past). IsTrue (are_before ps now)) (sym begun.added) (ordered_push past begun.ended now (omega (arith, begun.when, later)) (ordered_later past last now (omega (arith, later)) ordered))

@@ -2,7 +2,7 @@
 use Rattle.std.specs.Prelude.{◌≡◌, ◌⊎◌, ◌≤◌, ◌+◌, ◌-◌, ◌++◌, ◌∷◌, [], ◌&&◌, ℕ, Bool, true, List, length, take, drop, replicate, nat_lt, if◌then◌else◌}
 use Rattle.byte_disk.specs.Disk.{Torn}
 use Rattle.byte_disk.specs.declared.span.Write.{Write}
-use Rattle.byte_disk.specs.declared.span.Span.{Span}
+use Rattle.byte_disk.specs.declared.span.SinceSync.{SinceSync}
 use Rattle.byte_disk.specs.declared.span.Past.{Past}
 
 -- these bytes at this offset, with zeros between the old end and them
@@ -20,7 +20,7 @@ Reaches base [] c = c ≡ base
 Reaches base (w ∷ writes) c = (d : List ℕ) × Torn w.at (length w.bytes.items) base d × Reaches d writes c
 
 -- the bytes that a stop in a span may leave
-abbrev pub SpanLeaves : Span → List ℕ → Type 0
+abbrev pub SpanLeaves : SinceSync → List ℕ → Type 0
 SpanLeaves span c = Reaches span.base.items span.writes.items c
 
 -- the bytes that a stop in one of the spans might have left, at the moment t or later
@@ -34,7 +34,7 @@ are_before [] now = true
 are_before (p ∷ past) now = nat_lt p.last.count now && are_before past now
 
 -- the write was added at the end
-pub record IsNoted (at : ℕ) (bytes : List ℕ) (done : Bool) (old new : Span) : Type 0 where
+pub record IsNoted (at : ℕ) (bytes : List ℕ) (done : Bool) (old new : SinceSync) : Type 0 where
   pub write : Write
   pub place : write.at ≡ at
   pub same_bytes : write.bytes.items ≡ bytes
@@ -43,21 +43,21 @@ pub record IsNoted (at : ℕ) (bytes : List ℕ) (done : Bool) (old new : Span) 
   pub same_base : new.base.items ≡ old.base.items
 
 -- no write was added, or one of n bytes at the end
-pub record Grows (at n : ℕ) (old new : Span) : Type 0 where
+pub record Grows (at n : ℕ) (old new : SinceSync) : Type 0 where
   pub same_base : new.base.items ≡ old.base.items
   pub writes : (new.writes.items ≡ old.writes.items) ⊎ ((w : Write) × (w.at ≡ at) × (length w.bytes.items ≡ n) × (new.writes.items ≡ old.writes.items ++ w ∷ []))
 
 -- these are the bytes that the writes of the span give
-abbrev pub IsWhole : List ℕ → Span → Type 0
+abbrev pub IsWhole : List ℕ → SinceSync → Type 0
 IsWhole bytes span = bytes ≡ applied span.base.items span.writes.items
 
 -- no write was added
-pub record IsSameSpan (old new : Span) : Type 0 where
+pub record IsSameSpan (old new : SinceSync) : Type 0 where
   pub same_base : new.base.items ≡ old.base.items
   pub same_writes : new.writes.items ≡ old.writes.items
 
 -- the span ended at that moment, and one without writes began with these bytes
-pub record HasBegun (base : List ℕ) (last : ℕ) (old new : Span) (before past : List Past) : Type 0 where
+pub record HasBegun (base : List ℕ) (last : ℕ) (old new : SinceSync) (before past : List Past) : Type 0 where
   pub ended : Past
   pub span : ended.span ≡ old
   pub when : ended.last.count ≡ last

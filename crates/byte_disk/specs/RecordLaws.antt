@@ -6,7 +6,7 @@ use Rattle.std.specs.Prelude.{if◌then◌else◌, nat_lt}
 use Rattle.byte_disk.specs.Disk.{Torn, IsWritten}
 use Rattle.byte_disk.specs.Record.{overlaid, applied, Reaches, SpanLeaves, WasLeft, are_before}
 use Rattle.byte_disk.specs.declared.span.Write.{Write}
-use Rattle.byte_disk.specs.declared.span.Span.{Span}
+use Rattle.byte_disk.specs.declared.span.SinceSync.{SinceSync}
 use Rattle.byte_disk.specs.declared.span.Past.{Past}
 
 -- a write that changed nothing
@@ -67,6 +67,6 @@ none_later [] now c ordered left = left
 none_later (p ∷ past) now c ordered (inl (late, left)) = omega (arith, late, ltb-true p.last.count now (and_parts (nat_lt p.last.count now) (are_before past now) ordered).0)
 none_later (p ∷ past) now c ordered (inr left) = none_later past now c (and_parts (nat_lt p.last.count now) (are_before past now) ordered).1 left
 
-pub only_present : (span : Span) (past : List Past) (now : ℕ) (c : List ℕ) → IsTrue (are_before past now) → SpanLeaves span c ⊎ WasLeft past now c → SpanLeaves span c
+pub only_present : (span : SinceSync) (past : List Past) (now : ℕ) (c : List ℕ) → IsTrue (are_before past now) → SpanLeaves span c ⊎ WasLeft past now c → SpanLeaves span c
 only_present span past now c ordered (inl present) = present
 only_present span past now c ordered (inr left) = absurd (none_later past now c ordered left)

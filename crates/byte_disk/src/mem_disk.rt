@@ -10,7 +10,7 @@ use crate::new_disk::NewDisk;
 use crate::pending::Pending;
 use crate::record::{begin, copy_out, cut_short, record_write};
 use crate::script::{Fate, Script};
-use crate::span::{Past, Span};
+use crate::span::{Past, SinceSync};
 use byte_io::{NotOpened, Tally};
 use std::alloc::{AllocError, Global};
 use std::mem;
@@ -20,7 +20,7 @@ use std::mem;
 pub struct MemDisk {
     alloc: Global,
     bytes: Vec<u8>,
-    span: Span,
+    span: SinceSync,
     past: Vec<Past>,
     clock: Tally,
     failures: Tally,
@@ -110,7 +110,7 @@ impl MemDisk {
         Ok(MemDisk {
             alloc,
             bytes,
-            span: Span {
+            span: SinceSync {
                 base,
                 writes: Vec::new(alloc),
             },

@@ -8,7 +8,7 @@ ghost use Rattle.byte_disk.specs.Pending.{cut_by};
 use crate::disk::DiskFault;
 use crate::pending::Pending;
 use crate::script::Fate;
-use crate::span::{Past, Span, Write};
+use crate::span::{Past, SinceSync, Write};
 use byte_io::Tally;
 use std::alloc::{AllocError, Global};
 use std::mem;
@@ -45,7 +45,7 @@ pub(crate) fn overlay(
 /// Adds a write to the span.
 pub(crate) fn note(
     alloc: Global,
-    span: &mut Span,
+    span: &mut SinceSync,
     at: u64,
     bytes: &[u8],
     done: bool,
@@ -59,7 +59,7 @@ pub(crate) fn note(
 }
 
 /// Adds a write that was not done, if there is memory for it.
-pub(crate) fn note_failed(alloc: Global, span: &mut Span, at: u64, bytes: &[u8])
+pub(crate) fn note_failed(alloc: Global, span: &mut SinceSync, at: u64, bytes: &[u8])
     ensures grows { Grows at (length bytes.now) span.old span.new }
     ensures whole { (content : List ℕ) → IsWhole content span.old → IsWhole content span.new }
 {
@@ -70,7 +70,7 @@ pub(crate) fn note_failed(alloc: Global, span: &mut Span, at: u64, bytes: &[u8])
 pub(crate) fn record_write(
     alloc: Global,
     content: &mut Vec<u8>,
-    span: &mut Span,
+    span: &mut SinceSync,
     at: u64,
     bytes: &[u8],
     fate: Fate,
@@ -117,7 +117,7 @@ pub(crate) fn cut_short(
 /// Ends the span at that moment, and begins one with these bytes.
 pub(crate) fn begin(
     alloc: Global,
-    span: &mut Span,
+    span: &mut SinceSync,
     past: &mut Vec<Past>,
     base: &[u8],
     last: Tally,
@@ -126,7 +126,7 @@ pub(crate) fn begin(
         span.old span.new past.old.items past.new.items) }
     ensures err { OnErr result ((span.new ≡ span.old) × (past.new.items ≡ past.old.items)) }
 {
-    let next = Span {
+    let next = SinceSync {
         base: base.to_vec(alloc)?,
         writes: Vec::new(alloc),
     };

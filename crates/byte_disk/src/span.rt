@@ -12,7 +12,7 @@ pub(crate) struct Write {
 
 /// The bytes after the last sync, and the writes since then, the oldest first.
 #[derive(Drop)]
-pub(crate) struct Span {
+pub(crate) struct SinceSync {
     pub(crate) base: Vec<u8>,
     pub(crate) writes: Vec<Write>,
 }
@@ -20,6 +20,6 @@ pub(crate) struct Span {
 /// A span that a sync ended, and its last moment.
 #[derive(Drop)]
 pub(crate) struct Past {
-    pub(crate) span: Span,
+    pub(crate) span: SinceSync,
     pub(crate) last: Tally,
 }

@@ -4,8 +4,8 @@ use Rattle.std.specs.List.{flat_map}
 use Rattle.std.specs.declared.result.Result.{Result}
 use Rattle.byte_io.specs.Device.{SinkState, CountsFailure}
 use Rattle.byte_folder.specs.declared.file.NamedFile.{NamedFile}
-use Rattle.byte_folder.specs.declared.fault.MakeFault.{MakeFault}
-use Rattle.byte_folder.specs.declared.fault.MakeFault.TheVariants as make
+use Rattle.byte_folder.specs.declared.fault.MakeFolderFault.{MakeFolderFault}
+use Rattle.byte_folder.specs.declared.fault.MakeFolderFault.TheVariants as make
 
 -- a file of a folder
 pub record File : Type 0 where
@@ -53,7 +53,7 @@ IsFree (Some fs) = fs ≡ []
 
 -- an empty folder was made beside, where none was, and the name is free; or nothing changed. `Exists` comes exactly if there
 -- was a new folder
-abbrev pub IsMade : {T : Type 0} → Result T MakeFault → Folders → Folders → Type 0
+abbrev pub IsMade : {T : Type 0} → Result T MakeFolderFault → Folders → Folders → Type 0
 IsMade (Ok t) old new = IsFree old.stands × (old.beside ≡ None) × (new.beside ≡ Some []) × (new.stands ≡ old.stands) × (new.stuck ≡ old.stuck)
 IsMade (Err make.NotOpened) old new = (new ≡ old) × (old.beside ≡ None)
 IsMade (Err make.Exists) old new = (new ≡ old) × IsSome old.beside

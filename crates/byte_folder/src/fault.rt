@@ -6,7 +6,7 @@ use std::fmt;
 
 /// Why no new folder was made.
 #[derive(Clone, Copy, Debug, PartialEq, Eq)]
-pub enum MakeFault {
+pub enum MakeFolderFault {
     /// It could not be made, or the name belongs to a folder with files, or to something that is not a folder.
     NotOpened,
     /// There is a file or a folder with the new folder's name.

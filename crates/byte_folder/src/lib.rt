@@ -9,9 +9,9 @@ mod putting;
 mod system_folder;
 mod way;
 
-pub use fault::{FolderFault, MakeFault};
+pub use fault::{FolderFault, MakeFolderFault};
 pub use file::NamedFile;
-pub use mem_folder::{MemFolder, Step};
+pub use mem_folder::{FolderStep, MemFolder};
 pub use place::FolderPlace;
 pub use putting::put_folder;
 pub use system_folder::SystemFolder;

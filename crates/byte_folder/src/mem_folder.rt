@@ -4,7 +4,7 @@ ghost use Rattle.std.specs.Prelude.{◌≡◌, None, Some, map, option_map, IfOk
 ghost use Rattle.byte_io.specs.Device.{target_of};
 ghost use Rattle.byte_folder.specs.Folder.{seen, IsFree};
 
-use crate::fault::MakeFault;
+use crate::fault::MakeFolderFault;
 use crate::file::NamedFile;
 use crate::place::FolderPlace;
 use byte_io::{Log, NotOpened, PublishFault, Tally};
@@ -12,7 +12,7 @@ use std::alloc::{AllocError, Global};
 
 /// A step of a place in memory.
 #[derive(Clone, Copy, Debug, PartialEq, Eq)]
-pub enum Step {
+pub enum FolderStep {
     Make,
     Add,
     Put,
@@ -26,7 +26,7 @@ pub struct MemFolder {
     stands: Option<Vec<NamedFile>>,
     beside: Option<Vec<NamedFile>>,
     room: usize,
-    fails: Option<Step>,
+    fails: Option<FolderStep>,
     taken: Log,
     failures: Tally,
     stalls: Tally,
@@ -65,7 +65,7 @@ impl MemFolder {
     }
 
     /// Makes this step fail.
-    pub fn fail_at(&mut self, step: Step)
+    pub fn fail_at(&mut self, step: FolderStep)
         ensures set { self.new.fails ≡ Some step }
         ensures room { self.new.room ≡ self.old.room }
         ensures rest { ⟦<MemFolder as FolderPlace>⟧.state self.new ≡ ⟦<MemFolder as FolderPlace>⟧.state self.old }
@@ -134,14 +134,14 @@ impl FolderPlace for MemFolder {
       });
     } };
 
-    fn make(&mut self) -> Result<(), MakeFault> {
+    fn make(&mut self) -> Result<(), MakeFolderFault> {
         if self.beside.is_some() {
             self.failures = Tally::after(&self.failures);
-            return Err(MakeFault::Exists);
+            return Err(MakeFolderFault::Exists);
         }
-        if self.fails == Some(Step::Make) || !is_free(&self.stands) {
+        if self.fails == Some(FolderStep::Make) || !is_free(&self.stands) {
             self.failures = Tally::after(&self.failures);
-            return Err(MakeFault::NotOpened);
+            return Err(MakeFolderFault::NotOpened);
         }
         self.beside = Some(Vec::new(self.alloc));
         Ok(())
@@ -156,7 +156,7 @@ impl FolderPlace for MemFolder {
             self.failures = Tally::after(&self.failures);
             return Err(PublishFault::NotOpened);
         };
-        if self.fails == Some(Step::Add) || files.push(file).is_err() {
+        if self.fails == Some(FolderStep::Add) || files.push(file).is_err() {
             self.failures = Tally::after(&self.failures);
             return Err(PublishFault::NotOpened);
         }
@@ -171,7 +171,7 @@ impl FolderPlace for MemFolder {
     }
 
     fn put(&mut self) -> Result<(), NotOpened> {
-        if self.fails == Some(Step::Put) || !is_free(&self.stands) {
+        if self.fails == Some(FolderStep::Put) || !is_free(&self.stands) {
             self.failures = Tally::after(&self.failures);
             return Err(NotOpened);
         }
@@ -180,7 +180,7 @@ impl FolderPlace for MemFolder {
     }
 
     fn remove(&mut self) {
-        if self.fails == Some(Step::Remove) {
+        if self.fails == Some(FolderStep::Remove) {
             self.stuck = Tally::after(&self.stuck);
             return;
         }

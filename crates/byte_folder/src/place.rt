@@ -4,7 +4,7 @@ ghost use Rattle.std.specs.Prelude.{◌≡◌, OnOk, IfErr};
 ghost use Rattle.byte_io.specs.Publish.{Publishes, IsPublishFault};
 ghost use Rattle.byte_folder.specs.Folder.{FolderState, IfReported, CountsOnly, IsMade, IsAdded, IsPut, IsRemoved};
 
-use crate::fault::MakeFault;
+use crate::fault::MakeFolderFault;
 use byte_io::{NotOpened, PublishFault};
 
 /// The name of a folder. A new folder can be made next to it, filled, and then be renamed to it.
@@ -13,7 +13,7 @@ pub trait FolderPlace {
     ghost state: { Self → FolderState };
 
     /// Makes the new folder, empty, if there is no folder with the name, or an empty one.
-    fn make(&mut self) -> Result<(), MakeFault>
+    fn make(&mut self) -> Result<(), MakeFolderFault>
         ensures calls { CountsOnly result (state self.old).sink (state self.new).sink }
         ensures folders { IfReported (IsMade result) (state self.old).folders (state self.new).folders };
 

@@ -6,7 +6,7 @@ ghost use Rattle.byte_folder.specs.Folder.{seen, is_long, contents};
 ghost use Rattle.byte_folder.specs.Put.{Puts, IsImpossible, IsTaken, HasNew, IsPutFault, Adds, IsAddFault};
 ghost use Rattle.byte_folder.specs.declared.fault.FolderFault.TheVariants as outcome;
 
-use crate::fault::{FolderFault, MakeFault};
+use crate::fault::{FolderFault, MakeFolderFault};
 use crate::file::NamedFile;
 use crate::place::FolderPlace;
 use byte_io::PublishFault;
@@ -87,8 +87,8 @@ pub fn put_folder<P: FolderPlace>(place: &mut P, files: &[NamedFile]) -> Result<
     };
     match place.make() {
         Ok(()) => {}
-        Err(MakeFault::NotOpened) => return Err(FolderFault::NotOpened),
-        Err(MakeFault::Exists) => return Err(FolderFault::NewExists),
+        Err(MakeFolderFault::NotOpened) => return Err(FolderFault::NotOpened),
+        Err(MakeFolderFault::Exists) => return Err(FolderFault::NewExists),
     }
     if let Err(fault) = add_files(place, files) {
         place.remove();

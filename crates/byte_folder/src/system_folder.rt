@@ -5,7 +5,7 @@ ghost use Rattle.std.specs.String.{string_bytes};
 ghost use Rattle.byte_io.specs.Device.{target_of};
 ghost use Rattle.byte_folder.specs.Folder.{untold};
 
-use crate::fault::MakeFault;
+use crate::fault::MakeFolderFault;
 use crate::place::FolderPlace;
 use crate::way::{make_folder, path_in, remove_folder, without_slashes};
 use byte_io::{DeviceFault, NotOpened, PublishFault, Sink, StdFile, Target, publish};
@@ -93,7 +93,7 @@ impl<R: Files> FolderPlace for SystemFolder<'_, R> {
       folders = None;
     } };
 
-    fn make(&mut self) -> Result<(), MakeFault> {
+    fn make(&mut self) -> Result<(), MakeFolderFault> {
         match make_folder(self.rt, self.path, &self.beside) {
             Ok(()) => Ok(()),
             Err(fault) => {

@@ -2,7 +2,7 @@
 
 ghost use Rattle.std.specs.Prelude.{◌≡◌, [], take, length};
 
-use crate::fault::MakeFault;
+use crate::fault::MakeFolderFault;
 use std::alloc::Global;
 use std::fs::{self, Metadata, Permissions};
 use std::io::{self, ErrorKind, Read};
@@ -20,12 +20,16 @@ pub(crate) fn without_slashes(path: &str) -> &str
 }
 
 /// Makes the new folder next to the path, if there is none, and if the path has nothing or an empty folder, which it is as open as.
-pub(crate) fn make_folder<R: Files>(rt: &R, path: &str, beside: &str) -> Result<(), MakeFault> {
+pub(crate) fn make_folder<R: Files>(
+    rt: &R,
+    path: &str,
+    beside: &str,
+) -> Result<(), MakeFolderFault> {
     if fs::symlink_metadata(rt, beside).is_ok() {
-        return Err(MakeFault::Exists);
+        return Err(MakeFolderFault::Exists);
     }
     if !is_free(rt, path) {
-        return Err(MakeFault::NotOpened);
+        return Err(MakeFolderFault::NotOpened);
     }
     let old = fs::symlink_metadata(rt, path).ok();
     let mode = if old.is_some() { 0o700 } else { 0o777 };
@@ -36,8 +40,8 @@ pub(crate) fn make_folder<R: Files>(rt: &R, path: &str, beside: &str) -> Result<
             }
             Ok(())
         }
-        Err(error) if error.kind() == ErrorKind::AlreadyExists => Err(MakeFault::Exists),
-        Err(_) => Err(MakeFault::NotOpened),
+        Err(error) if error.kind() == ErrorKind::AlreadyExists => Err(MakeFolderFault::Exists),
+        Err(_) => Err(MakeFolderFault::NotOpened),
     }
 }
 

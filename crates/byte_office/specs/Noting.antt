@@ -5,8 +5,8 @@ use Rattle.byte_io.specs.Device.{SinkState}
 use Rattle.byte_io.specs.Whole.{WritesAll, IsCutAt}
 use Rattle.byte_out.specs.Place.{Files, PlaceState, IfReported}
 use Rattle.byte_out.specs.Replace.{IsKept, ReportsNone}
-use Rattle.byte_office.specs.declared.fault.NoteFault.{NoteFault}
-use Rattle.byte_office.specs.declared.fault.NoteFault.TheVariants as fault
+use Rattle.byte_office.specs.declared.fault.OfficeFileFault.{OfficeFileFault}
+use Rattle.byte_office.specs.declared.fault.OfficeFileFault.TheVariants as fault
 
 -- the office file has this text, and no new file is left; no stop left a part of the text there
 pub record HasText (text : List ℕ) (old new : Files) : Type 0 where
@@ -31,7 +31,7 @@ Notes text old new = WritesAll text old.sink new.sink
 -- the old office file is there: the new one did not get its name, or exactly its first n bytes were written, or its sync
 -- failed; or the new one is there, and a stop may leave the old one. A place that does not report its files may also lose the new
 -- one to another program, or write in place
-abbrev pub IsUnnoted : List ℕ → PlaceState → PlaceState → NoteFault → Type 0
+abbrev pub IsUnnoted : List ℕ → PlaceState → PlaceState → OfficeFileFault → Type 0
 IsUnnoted text old new fault.NotOpened = (FailsAtEnd text old.sink new.sink × IfReported IsKept old.files new.files)
     ⊎ (WritesAll text old.sink new.sink × ReportsNone old new)
 IsUnnoted text old new fault.TooLarge = ⊥
@@ -45,6 +45,6 @@ abbrev pub NotesIf : Option (List ℕ) → PlaceState → PlaceState → Type 0
 NotesIf (Some text) old new = Notes text old new
 NotesIf None old new = new ≡ old
 
-abbrev pub IsUnnotedIf : Option (List ℕ) → PlaceState → PlaceState → NoteFault → Type 0
+abbrev pub IsUnnotedIf : Option (List ℕ) → PlaceState → PlaceState → OfficeFileFault → Type 0
 IsUnnotedIf (Some text) old new f = IsUnnoted text old new f
 IsUnnotedIf None old new f = ⊥

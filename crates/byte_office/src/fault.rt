@@ -5,7 +5,7 @@ use thiserror::Error;
 
 /// Why an office file was not replaced. It prints as the fault's name and its place.
 #[derive(Clone, Copy, Debug, PartialEq, Eq, Error)]
-pub enum NoteFault {
+pub enum OfficeFileFault {
     /// The new file could not be renamed.
     #[error("NotOpened")]
     NotOpened,
@@ -23,7 +23,7 @@ pub enum UnreplacedFault {
     /// The new file was not made ready. Both files are unchanged.
     Unready(ReplaceFault),
     /// The office file was not replaced, or a power cut may undo that. The file is unchanged.
-    Unnoted(NoteFault),
+    Unnoted(OfficeFileFault),
     /// The office file has its text. The new file did not get its name, or a power cut may undo that.
     Late(ReplaceFault),
 }

@@ -6,7 +6,7 @@ mod new_place;
 mod noting;
 mod replacing;
 
-pub use fault::{NoteFault, UnreplacedFault};
-pub use new_place::NewPlace;
+pub use fault::{OfficeFileFault, UnreplacedFault};
+pub use new_place::NewStdPlace;
 pub use noting::{put_changed, put_office};
 pub use replacing::replace_after;

@@ -5,26 +5,26 @@ ghost use Rattle.byte_io.specs.Device.{target_of};
 ghost use Rattle.byte_out.specs.Place.{untold};
 
 use byte_io::{DeviceFault, StdFile, WriteFault, write_all};
-use byte_out::{CompareFault, MakeFault, Place, PutFault};
+use byte_out::{Chunks, CompareFault, MakeFault, Place, PutFault};
 use std::fs::{self, OpenFile, OpenOptions};
 use std::io;
 use std::rt::Files;
 
 /// The place of a file that does not exist yet, such as a new office file. It is made with its name.
 #[derive(Drop)]
-pub struct NewPlace<'a, R: Files> {
+pub struct NewStdPlace<'a, R: Files> {
     rt: &'a R,
     path: &'a str,
     out: StdFile<R::File>,
 }
 
-impl<'a, R: Files> NewPlace<'a, R> {
+impl<'a, R: Files> NewStdPlace<'a, R> {
     /// The place of a file that does not exist yet. Nothing is made yet.
-    pub fn new(rt: &'a R, path: &'a str) -> NewPlace<'a, R>
+    pub fn new(rt: &'a R, path: &'a str) -> NewStdPlace<'a, R>
         ensures path { result.path ≡ path.entry }
-        ensures untold { ⟦<NewPlace<'a, R> as Place>⟧.state result ≡ untold (target_of None) }
+        ensures untold { ⟦<NewStdPlace<'a, R> as Place>⟧.state result ≡ untold (target_of None) }
     {
-        NewPlace {
+        NewStdPlace {
             rt,
             path,
             out: StdFile::new(),
@@ -32,7 +32,7 @@ impl<'a, R: Files> NewPlace<'a, R> {
     }
 }
 
-impl<R: Files> Place for NewPlace<'_, R> {
+impl<R: Files> Place for NewStdPlace<'_, R> {
     ghost state = { λ s. record {
       sink = record {
         written = None;
@@ -76,7 +76,7 @@ impl<R: Files> Place for NewPlace<'_, R> {
         Ok(())
     }
 
-    fn put(&mut self, _read: Option<&[u8]>, _bytes: &[u8]) -> Result<(), PutFault> {
+    fn put<C: Chunks>(&mut self, _read: Option<&[u8]>, _content: &mut C) -> Result<(), PutFault> {
         // It has its name already.
         if self.out.file.is_some() {
             self.out.file = None;

@@ -7,10 +7,11 @@ ghost use Rattle.byte_out.specs.Own.{IsOwnPath, marked, file_of};
 ghost use Rattle.byte_out.specs.Place.{untold};
 
 use crate::beside::remove_own;
+use crate::chunks::Chunks;
 use crate::fault::{CompareFault, InUse, MakeFault, PutFault};
 use crate::lock::Lockable;
 use crate::place::Place;
-use crate::reserved::make_own;
+use crate::reserved::make_ready;
 use crate::way::{FileId, Led, leads, open_for, replaced, sync_folder};
 use crate::within::{compare_beside, compare_within, put_beside, write_within};
 use byte_io::{DeviceFault, Sink, StdFile, WriteFault, write_all};
@@ -35,6 +36,8 @@ pub struct FilePlace<'a, R: Files> {
     reserved: Option<R::File>,
     out: StdFile<R::File>,
     is_beside: bool,
+    /// The old file, which was compared and is locked until the new one has its name.
+    compared: Option<R::File>,
 }
 
 // A new file that was reserved and not used is removed.
@@ -53,6 +56,7 @@ impl<R: Files> Drop for FilePlace<'_, R> {
             reserved: _,
             out: _,
             is_beside: _,
+            compared: _,
         } = self;
     }
 }
@@ -91,11 +95,12 @@ where
             reserved: None,
             out: StdFile::new(),
             is_beside: false,
+            compared: None,
         })
     }
 
-    /// Makes and locks the new file, before the old one is read; `make` then finds it. While another command has it, this one waits, at
-    /// most this long, and only then is refused. Where the new file cannot be made at all, nothing is, and `make` reports it. Unless
+    /// Makes and locks the new file, before the old one is read; `make` then finds it. While another command has it, or writes the old
+    /// one in place, this one waits, at most this long, and only then is refused. Where the new file cannot be made at all, nothing is, and `make` reports it. Unless
     /// `make` takes it, the new file is removed when the place is dropped.
     pub fn reserve(&mut self, wait: Duration) -> Result<(), InUse>
     where
@@ -109,10 +114,11 @@ where
         if self.reserved.is_some() || self.out.file.is_some() || self.is_closed() {
             return Ok(());
         }
-        let Some(old) = replaced(self.rt, file_of(&self.led, self.path)) else {
+        let real = file_of(&self.led, self.path);
+        let Some(old) = replaced(self.rt, real) else {
             return Ok(());
         };
-        match make_own(self.rt, &self.beside, &old, wait) {
+        match make_ready(self.rt, &self.beside, real, &old, wait) {
             Ok(made) => {
                 self.reserved = made;
                 Ok(())
@@ -249,13 +255,22 @@ where
         let real = file_of(&self.led, self.path);
         let compared = match &self.out.file {
             Some(file) if self.is_beside => {
-                compare_beside(self.rt, file, &self.beside, real, read)
+                match compare_beside(self.rt, file, &self.beside, real, read) {
+                    Ok(old) => Ok(Some(old)),
+                    Err(fault) => Err(fault),
+                }
             }
-            Some(file) => compare_within(self.rt, file, real, read),
+            Some(file) => match compare_within(self.rt, file, real, read) {
+                Ok(()) => Ok(None),
+                Err(fault) => Err(fault),
+            },
             None => Err(CompareFault::Changed),
         };
         match compared {
-            Ok(()) => Ok(()),
+            Ok(old) => {
+                self.compared = old;
+                Ok(())
+            }
             Err(CompareFault::Changed) => Err(CompareFault::Changed),
             Err(fault) => {
                 self.out.fail();
@@ -264,16 +279,20 @@ where
         }
     }
 
-    fn put(&mut self, read: Option<&[u8]>, bytes: &[u8]) -> Result<(), PutFault> {
+    fn put<C: Chunks>(&mut self, read: Option<&[u8]>, content: &mut C) -> Result<(), PutFault> {
         let real = file_of(&self.led, self.path);
         let put = match self.out.file.take() {
             None => Err(PutFault::NotOpened),
             Some(file) if self.is_beside => {
-                let put = put_beside(self.rt, &file, &self.beside, real, read, bytes);
-                self.out.file = Some(file);
+                let compared = self.compared.take();
+                let put = put_beside(self.rt, &file, &self.beside, real, compared, read, content);
+                // A new file that has the name is closed, so that its lock keeps nobody waiting.
+                if put.is_err() {
+                    self.out.file = Some(file);
+                }
                 put
             }
-            Some(file) => write_within(file, bytes),
+            Some(file) => write_within(file, content),
         };
         match put {
             Ok(()) => Ok(()),

@@ -3,6 +3,7 @@
 ghost use Rattle.std.specs.Prelude.{◌≡◌, ◌↔◌, None, Some, true, false, option_map, IsTrue};
 ghost use Rattle.byte_io.specs.Device.{target_of};
 
+use crate::chunks::Chunks;
 use crate::fault::{CompareFault, MakeFault, PutFault};
 use crate::place::Place;
 use byte_io::{DeviceFault, Log, Tally, WriteFault};
@@ -10,7 +11,7 @@ use std::alloc::Global;
 
 /// A step of a place in memory.
 #[derive(Clone, Copy, Debug, PartialEq, Eq)]
-pub enum Step {
+pub enum PlaceStep {
     Make,
     Sync,
     /// Opening the file with the name again, to compare it.
@@ -29,7 +30,7 @@ pub struct MemPlace {
     stands: Option<Vec<u8>>,
     beside: Option<Vec<u8>>,
     room: usize,
-    fails: Option<Step>,
+    fails: Option<PlaceStep>,
     sure: bool,
     same: bool,
     torn: bool,
@@ -80,7 +81,7 @@ impl MemPlace {
     }
 
     /// Makes this step fail.
-    pub fn fail_at(&mut self, step: Step)
+    pub fn fail_at(&mut self, step: PlaceStep)
         ensures set { self.new.fails ≡ Some step }
         ensures room { self.new.room ≡ self.old.room }
         ensures rest { ⟦<MemPlace as Place>⟧.state self.new ≡ ⟦<MemPlace as Place>⟧.state self.old }
@@ -158,7 +159,7 @@ impl Place for MemPlace {
             self.failures = Tally::after(&self.failures);
             return Err(MakeFault::Exists);
         }
-        if self.fails == Some(Step::Make) {
+        if self.fails == Some(PlaceStep::Make) {
             self.failures = Tally::after(&self.failures);
             return Err(MakeFault::NotOpened);
         }
@@ -192,7 +193,7 @@ impl Place for MemPlace {
     }
 
     fn sync(&mut self) -> Result<(), DeviceFault> {
-        if self.fails == Some(Step::Sync) {
+        if self.fails == Some(PlaceStep::Sync) {
             self.failures = Tally::after(&self.failures);
             return Err(DeviceFault);
         }
@@ -205,11 +206,11 @@ impl Place for MemPlace {
         if self.stands.is_none() {
             return Err(CompareFault::Changed);
         }
-        if self.fails == Some(Step::Reopen) {
+        if self.fails == Some(PlaceStep::Reopen) {
             self.failures = Tally::after(&self.failures);
             return Err(CompareFault::NotOpened);
         }
-        if self.fails == Some(Step::Reread) {
+        if self.fails == Some(PlaceStep::Reread) {
             self.failures = Tally::after(&self.failures);
             return Err(CompareFault::ReadFailed(0));
         }
@@ -220,12 +221,12 @@ impl Place for MemPlace {
         Ok(())
     }
 
-    fn put(&mut self, _read: Option<&[u8]>, _bytes: &[u8]) -> Result<(), PutFault> {
+    fn put<C: Chunks>(&mut self, _read: Option<&[u8]>, _content: &mut C) -> Result<(), PutFault> {
         // If it is cut short, it may be done or not.
         if !self.sure {
             self.torn = true;
         }
-        if self.fails == Some(Step::Put) {
+        if self.fails == Some(PlaceStep::Put) {
             self.failures = Tally::after(&self.failures);
             return Err(PutFault::NotOpened);
         }
@@ -235,7 +236,7 @@ impl Place for MemPlace {
     }
 
     fn land(&mut self) -> Result<(), DeviceFault> {
-        if self.fails == Some(Step::Land) {
+        if self.fails == Some(PlaceStep::Land) {
             self.failures = Tally::after(&self.failures);
             return Err(DeviceFault);
         }
@@ -244,7 +245,7 @@ impl Place for MemPlace {
     }
 
     fn remove(&mut self) {
-        if self.fails == Some(Step::Remove) {
+        if self.fails == Some(PlaceStep::Remove) {
             self.stuck = Tally::after(&self.stuck);
             return;
         }

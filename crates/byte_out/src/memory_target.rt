@@ -2,6 +2,7 @@
 
 ghost use Rattle.byte_out.specs.Place.{untold};
 
+use crate::chunks::Chunks;
 use crate::fault::{CompareFault, MakeFault, PutFault};
 use crate::place::Place;
 use byte_io::{DeviceFault, MemoryTarget, Sink, Target, WriteFault, write_all};
@@ -28,7 +29,7 @@ impl Place for MemoryTarget {
         Ok(())
     }
 
-    fn put(&mut self, _read: Option<&[u8]>, _bytes: &[u8]) -> Result<(), PutFault> {
+    fn put<C: Chunks>(&mut self, _read: Option<&[u8]>, _content: &mut C) -> Result<(), PutFault> {
         Ok(())
     }
 

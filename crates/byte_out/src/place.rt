@@ -5,6 +5,7 @@ ghost use Rattle.byte_io.specs.Device.{Opens};
 ghost use Rattle.byte_io.specs.Whole.{WritesAll, IsCutAt};
 ghost use Rattle.byte_out.specs.Place.{PlaceState, IfReported, IsMade, IsFilled, IsSynced, IsCompared, IsPut, IsLanded, IsRemoved, CountsOnly, ComparesOnly, PutsOnly};
 
+use crate::chunks::Chunks;
 use crate::fault::{CompareFault, MakeFault, PutFault};
 use byte_io::{DeviceFault, WriteFault};
 
@@ -18,7 +19,7 @@ pub trait Place {
         ensures calls { Opens result (state self.old).sink (state self.new).sink }
         ensures files { IfReported (IsMade result) (state self.old).files (state self.new).files };
 
-    /// Writes all the bytes to the new file.
+    /// Writes all the bytes to the new file, behind those that it has.
     fn write(&mut self, bytes: &[u8]) -> Result<(), WriteFault>
         ensures ok { OnOk result
             (WritesAll bytes.now (state self.old).sink (state self.new).sink) }
@@ -37,10 +38,10 @@ pub trait Place {
         ensures calls { ComparesOnly result (state self.old).sink (state self.new).sink }
         ensures files { IfReported (IsCompared result read.now) (state self.old).files (state self.new).files };
 
-    /// Renames the new file to the old one, which it replaces. A file that is written in place gets `bytes` now; if a rename is
+    /// Renames the new file to the old one, which it replaces. A file that is written in place gets the bytes now; if a rename is
     /// refused, only if it still has the bytes that were read.
-    fn put(&mut self, read: Option<&[u8]>, bytes: &[u8]) -> Result<(), PutFault>
-        ensures calls { PutsOnly result bytes.now (state self.old).sink (state self.new).sink }
+    fn put<C: Chunks>(&mut self, read: Option<&[u8]>, content: &mut C) -> Result<(), PutFault>
+        ensures calls { PutsOnly result (C.bytes content.old) (state self.old).sink (state self.new).sink }
         ensures files { IfReported (IsPut result) (state self.old).files (state self.new).files };
 
     /// Makes sure that the renamed file keeps its name after a stop.

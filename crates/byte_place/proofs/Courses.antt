@@ -4,7 +4,7 @@ use Rattle.byte_system.specs.Disk.{Call, Opens, Looks, Finds, Writes, Syncs, Com
 use Rattle.byte_protocol.specs.declared.replacing.Fault.{Fault}
 use Rattle.byte_protocol.specs.declared.replacing.Fault.TheVariants as fault
 use Rattle.byte_protocol.specs.Replacing.{reserved, Refuses, Asks}
-use Rattle.byte_protocol.specs.Protocol.{Stage, Begins, Owns, Fills, Replaced, ReplacedUnread, IsWhole, IsSynced, FoundSame, Move, GivesUp, WritesAll, SyncsNew, FindsSame, Puts, PutsUnread, Withdraws, Strays, Job, from, to, call_of, end, IsPath, AreIdle, IsIdle, IsRead, ChangesNone, calls_of}
+use Rattle.byte_protocol.specs.Protocol.{Stage, Begins, Owns, Fills, Replaced, ReplacedUnread, IsWhole, IsSynced, FoundSame, Move, GivesUp, WritesAll, SyncsNew, FindsSame, Puts, PutsUnread, Withdraws, Strays, Job, from, to, call_of, IsPath, AreIdle, IsIdle, IsRead, ChangesNone, calls_of}
 use Rattle.byte_protocol.specs.Unread.{HasRead}
 use Rattle.byte_protocol.proofs.Led.{IsLed, owned_led}
 use Rattle.byte_protocol.proofs.Faults.{refused_anew}

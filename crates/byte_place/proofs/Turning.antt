@@ -1,6 +1,6 @@
 -- The calls of a place that is written in place are turns.
-use Rattle.std.proofs.Common.{◌≡◌, ◌⊎◌, inl, inr, ℕ, Bool, true, false, List, [], ◌∷◌, ◌++◌, Option, Some, None, length, refl, sym, ◌∙◌, ap, subst}
-use Rattle.byte_system.specs.Disk.{Content, Call, Compares, Fails}
+use Rattle.std.proofs.Common.{◌≡◌, ℕ, Bool, true, false, List, [], ◌∷◌, ◌++◌, Some, None, length, refl, sym, ◌∙◌, ap, subst}
+use Rattle.byte_system.specs.Disk.{Content, Call, Compares}
 use Rattle.byte_protocol.specs.declared.within.WriteFault.{WriteFault}
 use Rattle.byte_protocol.specs.Replacing.{entered, compared, Unentered}
 use Rattle.byte_protocol.specs.Overwriting.{filling, Spills}

@@ -10,7 +10,7 @@ ghost use Rattle.byte_place.specs.Steps.{MakesNone};
 use crate::progress::{At, ReserveFault};
 use crate::steps::{make_fault, mode_for, put_own, remove_own, reserve_fault, visit};
 use byte_io::{DeviceFault, Log, Tally, WriteFault};
-use byte_out::{CompareFault, MakeFault, Place, PutFault};
+use byte_out::{Chunks, CompareFault, MakeFault, Place, PutFault};
 use byte_protocol::reserve;
 use byte_system::{FolderFault, ReadFault, System};
 
@@ -142,8 +142,8 @@ impl<'a, S: System + Drop> CallPlace<'a, S> {
     }
 
     // Renames the new file to the old one, if it may be put in its place.
-    fn puts(&mut self, read: Option<&[u8]>, _bytes: &[u8]) -> Result<(), PutFault>
-        ensures calls { PutsOnly result _bytes.now (⟦<CallPlace<'a, S> as Place>⟧.state self.old).sink (⟦<CallPlace<'a, S> as Place>⟧.state self.new).sink }
+    fn puts<C: Chunks>(&mut self, read: Option<&[u8]>, _content: &mut C) -> Result<(), PutFault>
+        ensures calls { PutsOnly result (C.bytes _content.old) (⟦<CallPlace<'a, S> as Place>⟧.state self.old).sink (⟦<CallPlace<'a, S> as Place>⟧.state self.new).sink }
         ensures read { IsSome read.entry → self.new.unread ≡ self.old.unread }
     {
         self.settles(read.is_some());
@@ -269,8 +269,8 @@ impl<'a, S: System + Drop> Place for CallPlace<'a, S> {
         }
     }
 
-    fn put(&mut self, read: Option<&[u8]>, bytes: &[u8]) -> Result<(), PutFault> {
-        self.puts(read, bytes)
+    fn put<C: Chunks>(&mut self, read: Option<&[u8]>, content: &mut C) -> Result<(), PutFault> {
+        self.puts(read, content)
     }
 
     fn land(&mut self) -> Result<(), DeviceFault> {

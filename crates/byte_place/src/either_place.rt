@@ -9,7 +9,7 @@ use crate::call_place::CallPlace;
 use crate::progress::ReserveFault;
 use crate::within_place::WithinPlace;
 use byte_io::{DeviceFault, WriteFault};
-use byte_out::{CompareFault, MakeFault, Place, PutFault};
+use byte_out::{Chunks, CompareFault, MakeFault, Place, PutFault};
 use byte_system::System;
 
 /// The place of a file that is replaced by a new one beside it, or of one that is written in place.
@@ -81,10 +81,10 @@ impl<A: Place, B: Place> Place for EitherPlace<A, B> {
         }
     }
 
-    fn put(&mut self, read: Option<&[u8]>, bytes: &[u8]) -> Result<(), PutFault> {
+    fn put<C: Chunks>(&mut self, read: Option<&[u8]>, content: &mut C) -> Result<(), PutFault> {
         match self {
-            EitherPlace::Beside(place) => place.put(read, bytes),
-            EitherPlace::Within(place) => place.put(read, bytes),
+            EitherPlace::Beside(place) => place.put(read, content),
+            EitherPlace::Within(place) => place.put(read, content),
         }
     }
 

@@ -5,7 +5,7 @@ ghost use Rattle.byte_io.specs.Device.{target_of};
 ghost use Rattle.byte_out.specs.Place.{untold};
 
 use byte_io::{DeviceFault, Log, Tally, WriteFault};
-use byte_out::{CompareFault, MakeFault, Place, PutFault};
+use byte_out::{Chunks, CompareFault, MakeFault, Place, PutFault};
 use byte_system::{FolderFault, Mode, System};
 
 /// The place of a file that does not exist yet, such as a new office file. It is made with its name.
@@ -93,7 +93,7 @@ impl<S: System + Drop> Place for NewPlace<'_, S> {
         Ok(())
     }
 
-    fn put(&mut self, _read: Option<&[u8]>, _bytes: &[u8]) -> Result<(), PutFault> {
+    fn put<C: Chunks>(&mut self, _read: Option<&[u8]>, _content: &mut C) -> Result<(), PutFault> {
         // It has its name already.
         if self.file.is_some() {
             self.file = None;

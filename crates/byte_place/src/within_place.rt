@@ -10,7 +10,7 @@ ghost use Rattle.byte_place.specs.Turns.{Turns};
 use crate::progress::Within;
 use crate::steps::written;
 use byte_io::{DeviceFault, Log, Tally, WriteFault};
-use byte_out::{CompareFault, MakeFault, Place, PutFault};
+use byte_out::{Chunks, CompareFault, MakeFault, Place, PutFault};
 use byte_protocol::{enter, fill};
 use byte_system::{ReadFault, System};
 
@@ -66,9 +66,9 @@ impl<'a, S: System + Drop> WithinPlace<'a, S> {
         }
     }
 
-    // Writes the bytes in the place of those of the file, if they may be.
-    fn puts(&mut self, read: Option<&[u8]>, _bytes: &[u8]) -> Result<(), PutFault>
-        ensures calls { PutsOnly result _bytes.now (⟦<WithinPlace<'a, S> as Place>⟧.state self.old).sink (⟦<WithinPlace<'a, S> as Place>⟧.state self.new).sink }
+    // Writes the bytes in the place of those of the file, if they may be. They have to be in one chunk.
+    fn puts<C: Chunks>(&mut self, read: Option<&[u8]>, _content: &mut C) -> Result<(), PutFault>
+        ensures calls { PutsOnly result (C.bytes _content.old) (⟦<WithinPlace<'a, S> as Place>⟧.state self.old).sink (⟦<WithinPlace<'a, S> as Place>⟧.state self.new).sink }
         ensures read { IsSome read.entry → self.new.unread ≡ self.old.unread }
     {
         self.settles(read.is_some());
@@ -76,17 +76,25 @@ impl<'a, S: System + Drop> WithinPlace<'a, S> {
             self.failures = Tally::after(&self.failures);
             return Err(PutFault::NotOpened);
         };
-        match fill(&mut self.system, file, _bytes) {
+        let whole = _content.len();
+        _content.restart();
+        let _ = _content.advance();
+        let bytes = _content.chunk();
+        if bytes.len() != whole {
+            self.failures = Tally::after(&self.failures);
+            return Err(PutFault::NotOpened);
+        }
+        match fill(&mut self.system, file, bytes) {
             Ok(()) => {
                 self.at = Within::Over;
-                self.got.note(_bytes);
+                self.got.note(bytes);
                 Ok(())
             }
             Err(fault) => {
                 self.at = Within::Over;
-                self.got.note(_bytes);
+                self.got.note(bytes);
                 self.failures = Tally::after(&self.failures);
-                Err(PutFault::WriteFailed(written(fault, _bytes.len())))
+                Err(PutFault::WriteFailed(written(fault, whole)))
             }
         }
     }
@@ -159,8 +167,8 @@ impl<'a, S: System + Drop> Place for WithinPlace<'a, S> {
         }
     }
 
-    fn put(&mut self, read: Option<&[u8]>, bytes: &[u8]) -> Result<(), PutFault> {
-        self.puts(read, bytes)
+    fn put<C: Chunks>(&mut self, read: Option<&[u8]>, content: &mut C) -> Result<(), PutFault> {
+        self.puts(read, content)
     }
 
     fn land(&mut self) -> Result<(), DeviceFault> {

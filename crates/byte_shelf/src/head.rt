@@ -15,7 +15,7 @@ pub const LEAST: u32 = 14;
 pub const MOST: u32 = 67_108_864;
 
 #[derive(Clone, Copy)]
-pub(crate) struct Head {
+pub(crate) struct SlotHead {
     pub(crate) gate: u8,
     pub(crate) size: u32,
 }
@@ -28,18 +28,18 @@ pub(crate) fn is_size(size: u32) -> bool
     LEAST <= size && size <= MOST
 }
 
-fn head_in(bytes: &[u8]) -> Head
+fn head_in(bytes: &[u8]) -> SlotHead
     requires { length bytes.now ≡ 5 }
     ensures { HasHead bytes.now result.gate result.size }
 {
-    Head {
+    SlotHead {
         gate: bytes[0],
         size: u32::from_be_bytes([bytes[1], bytes[2], bytes[3], bytes[4]]),
     }
 }
 
 /// The gate, and a size that a shelf may have.
-pub(crate) fn read_head<D: Disk>(disk: &mut D) -> Result<Head, ShelfFault>
+pub(crate) fn read_head<D: Disk>(disk: &mut D) -> Result<SlotHead, ShelfFault>
     ensures head { IsTrue (D.tells disk.old)
         → IfOk result (λ h. HasHead (D.seen disk.old) h.gate h.size) }
     ensures range { IfOk result (λ h. IsSize h.size) }
@@ -82,7 +82,7 @@ pub(crate) fn first_sync<D: Disk>(disk: &mut D) -> Result<(), ShelfFault>
 }
 
 /// Syncs the disk, and reads the head.
-pub(crate) fn open_shelf<D: Disk>(disk: &mut D) -> Result<Head, ShelfFault>
+pub(crate) fn open_shelf<D: Disk>(disk: &mut D) -> Result<SlotHead, ShelfFault>
     ensures only { IsTrue (D.tells disk.old)
         → OnOk result (Only (D.seen disk.new) (D.images disk.new)) }
     ensures head { IsTrue (D.tells disk.old)
@@ -101,7 +101,7 @@ pub(crate) fn open_shelf<D: Disk>(disk: &mut D) -> Result<Head, ShelfFault>
 }
 
 /// The offset of the slot that is not in use.
-pub(crate) fn spare_place(head: &Head) -> u64
+pub(crate) fn spare_place(head: &SlotHead) -> u64
     ensures { result ≡ place head.now.size (1 - head.now.gate % 2) }
 {
     if head.gate % 2 == 1 {
@@ -112,7 +112,7 @@ pub(crate) fn spare_place(head: &Head) -> u64
 }
 
 /// The offset of the slot in use.
-pub(crate) fn place_in_use(head: &Head) -> u64
+pub(crate) fn place_in_use(head: &SlotHead) -> u64
     ensures { result ≡ place head.now.size (head.now.gate % 2) }
 {
     if head.gate % 2 == 0 {

@@ -4,7 +4,7 @@ use clap::ArgMatches;
 use cli_open::engines::places::Place;
 use cli_open::engines::streams::Writing;
 use cli_open::engines::{CliFault, run_change};
-use cli_open::{OpenOffice, Target, open_target, word};
+use cli_open::{OpenOffice, RegisterTarget, open_target, word};
 use reg_again::{EffectsOf, OnceOf};
 use reg_commands::ByWords;
 use std::alloc::Global;
@@ -31,7 +31,7 @@ fn change_in<Q: Place, P: Place + Drop, C: EffectsOf>(
     rt: &HostRuntime,
     matches: &ArgMatches<'_>,
     desk: &mut Desk<Q>,
-    target: Target<File, P>,
+    target: RegisterTarget<File, P>,
     command: &ByWords<'_, C>,
 ) -> Result<(), CliFault> {
     if matches.get_flag("quiet") {
@@ -45,7 +45,7 @@ fn change_in<Q: Place, P: Place + Drop, C: EffectsOf>(
 fn change_to<Q: Place, P: Place + Drop, C: EffectsOf, W: Write>(
     alloc: Global,
     desk: &mut Desk<Q>,
-    target: Target<File, P>,
+    target: RegisterTarget<File, P>,
     command: &ByWords<'_, C>,
     sink: &mut Writing<W>,
 ) -> Result<(), CliFault> {
@@ -61,7 +61,7 @@ fn change_to<Q: Place, P: Place + Drop, C: EffectsOf, W: Write>(
 // As an office with an office file. If the office has made this before, and it did not arrive, nothing is made.
 fn change_guarded<P: Place, Q: Place, C: EffectsOf, W: Write>(
     alloc: Global,
-    target: &mut Target<File, P>,
+    target: &mut RegisterTarget<File, P>,
     office: &mut OpenOffice<Q>,
     command: &ByWords<'_, C>,
     sink: &mut Writing<W>,
@@ -83,7 +83,7 @@ fn change_guarded<P: Place, Q: Place, C: EffectsOf, W: Write>(
 
 fn change_plainly<P: Place, C: EffectsOf, W: Write>(
     alloc: Global,
-    target: &mut Target<File, P>,
+    target: &mut RegisterTarget<File, P>,
     command: &ByWords<'_, C>,
     sink: &mut Writing<W>,
 ) -> Result<(), CliFault> {

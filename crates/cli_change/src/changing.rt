@@ -4,7 +4,7 @@ use clap::ArgMatches;
 use cli_open::engines::places::Place;
 use cli_open::engines::streams::Writing;
 use cli_open::engines::{Change, CliFault, Keep, run_change};
-use cli_open::{Target, explains, open_target, word};
+use cli_open::{RegisterTarget, explains, open_target, word};
 use reg_news::News;
 use reg_watch::{Told, change_and_tell};
 use std::fs::File;
@@ -31,7 +31,7 @@ pub fn change_of<Q: Place, P: Place + Drop, C: Change>(
     rt: &HostRuntime,
     matches: &ArgMatches<'_>,
     desk: &mut Desk<Q>,
-    target: Target<File, P>,
+    target: RegisterTarget<File, P>,
     command: &mut C,
 ) -> Result<(), CliFault> {
     change_in(rt, matches, desk, target, command, false)
@@ -42,7 +42,7 @@ fn change_in<Q: Place, P: Place + Drop, C: Change>(
     rt: &HostRuntime,
     matches: &ArgMatches<'_>,
     desk: &mut Desk<Q>,
-    target: Target<File, P>,
+    target: RegisterTarget<File, P>,
     command: &mut C,
     tells: bool,
 ) -> Result<(), CliFault> {
@@ -58,7 +58,7 @@ fn change_to<Q: Place, P: Place + Drop, C: Change, W: Write>(
     rt: &HostRuntime,
     tells: bool,
     desk: &mut Desk<Q>,
-    target: Target<File, P>,
+    target: RegisterTarget<File, P>,
     command: &mut C,
     sink: &mut Writing<W>,
 ) -> Result<(), CliFault> {

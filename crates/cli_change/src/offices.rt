@@ -7,7 +7,7 @@ use clap::ArgMatches;
 use cli_open::engines::places::{FileId, FilePlace, Place, own_path};
 use cli_open::engines::streams::Writing;
 use cli_open::engines::{CliFault, OutFault};
-use cli_open::guards::{NewPlace, OfficeFile, run_office};
+use cli_open::guards::{NewStdPlace, OfficeFile, run_office};
 use cli_open::{OpenOffice, office_at, office_file, open_office, parts, real_path, replica, word};
 use std::alloc::{AllocError, Global};
 use std::io::ErrorKind;
@@ -225,7 +225,7 @@ pub fn office(rt: &HostRuntime, matches: &ArgMatches<'_>) -> Result<(), CliFault
     if rt.fill_bytes(&mut random).is_err() {
         return Err(CliFault::Out(OutFault::NotOpened));
     }
-    let mut place = NewPlace::new(rt, path);
+    let mut place = NewStdPlace::new(rt, path);
     let mut sink = Writing::new(io::writer(rt));
     let answer = run_office(rt.alloc(), random, &mut place, &mut sink);
     drop(place);

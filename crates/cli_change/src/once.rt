@@ -4,7 +4,7 @@ use clap::ArgMatches;
 use cli_open::engines::places::Place;
 use cli_open::engines::streams::Writing;
 use cli_open::engines::{CliFault, run_change};
-use cli_open::{OpenOffice, Target, open_target, word};
+use cli_open::{OpenOffice, RegisterTarget, open_target, word};
 use reg_again::{Effects, Once};
 use std::alloc::Global;
 use std::fs::File;
@@ -30,7 +30,7 @@ pub fn change_once<Q: Place, P: Place + Drop, C: Effects + Drop>(
     rt: &HostRuntime,
     matches: &ArgMatches<'_>,
     desk: &mut Desk<Q>,
-    target: Target<File, P>,
+    target: RegisterTarget<File, P>,
     command: C,
 ) -> Result<(), CliFault> {
     if matches.get_flag("quiet") {
@@ -44,7 +44,7 @@ pub fn change_once<Q: Place, P: Place + Drop, C: Effects + Drop>(
 fn change_to<Q: Place, P: Place + Drop, C: Effects + Drop, W: Write>(
     alloc: Global,
     desk: &mut Desk<Q>,
-    target: Target<File, P>,
+    target: RegisterTarget<File, P>,
     command: C,
     sink: &mut Writing<W>,
 ) -> Result<(), CliFault> {
@@ -60,7 +60,7 @@ fn change_to<Q: Place, P: Place + Drop, C: Effects + Drop, W: Write>(
 // As an office with an office file. If the office has made this before, and it did not arrive, nothing is made.
 fn change_guarded<P: Place, Q: Place, C: Effects + Drop, W: Write>(
     alloc: Global,
-    target: &mut Target<File, P>,
+    target: &mut RegisterTarget<File, P>,
     office: &mut OpenOffice<Q>,
     command: C,
     sink: &mut Writing<W>,
@@ -77,7 +77,7 @@ fn change_guarded<P: Place, Q: Place, C: Effects + Drop, W: Write>(
 
 fn change_plainly<P: Place, C: Effects + Drop, W: Write>(
     alloc: Global,
-    target: &mut Target<File, P>,
+    target: &mut RegisterTarget<File, P>,
     command: C,
     sink: &mut Writing<W>,
 ) -> Result<(), CliFault> {

@@ -6,7 +6,9 @@ use cli_open::engines::CliFault;
 use cli_open::engines::places::Place;
 use cli_open::engines::streams::Writing;
 use cli_open::guards::{OfficeFile, TriedFile, TriedShelf};
-use cli_open::{OpenOffice, Opened, Rows, answered, open_office, open_register, open_target, word};
+use cli_open::{
+    OpenOffice, OpenedRegister, Rows, answered, open_office, open_register, open_target, word,
+};
 use reg_take::{TakeEffect, run_take, try_take};
 use std::io::{self, Write};
 
@@ -59,7 +61,7 @@ fn try_take_to<S: LateSource, W: Write>(
 ) -> Result<TakeEffect, CliFault> {
     let options = take_options(rt.alloc(), matches, Some(file))?;
     match open_register(rt, rt.alloc(), matches, "REG", &None)? {
-        Opened::File(source) => {
+        OpenedRegister::File(source) => {
             let mut source = source;
             let mut store = TriedFile {
                 source: &mut source,
@@ -67,7 +69,7 @@ fn try_take_to<S: LateSource, W: Write>(
             };
             try_take(rt.alloc(), &mut store, files, &options, sink)
         }
-        Opened::Shelf(disk) => {
+        OpenedRegister::Shelf(disk) => {
             let mut disk = disk;
             let mut store = TriedShelf {
                 disk: &mut disk,

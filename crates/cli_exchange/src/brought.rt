@@ -1,5 +1,5 @@
 //! Says what a command brought, and what no row shows of it.
-use cli_faults::{Named, say};
+use cli_faults::{CommandFiles, say};
 use cli_open::engines::registers::Register;
 use reg_hidden::hidden_in;
 use reg_merge::Merged;
@@ -13,7 +13,7 @@ pub struct Gained {
 }
 
 /// Says what a take changed, and what cannot be undone of it, if sentences are asked for and there is memory for them.
-pub fn say_gained(rt: &HostRuntime, gained: &Gained, named: &Option<Named<'_>>) {
+pub fn say_gained(rt: &HostRuntime, gained: &Gained, named: &Option<CommandFiles<'_>>) {
     let Some(named) = named else {
         return;
     };
@@ -26,7 +26,7 @@ pub fn say_gained(rt: &HostRuntime, gained: &Gained, named: &Option<Named<'_>>) 
 }
 
 /// Says what a merge brought to the first register, if there is memory for the sentence.
-pub fn say_merged(rt: &HostRuntime, merged: &Merged, named: &Named<'_>) {
+pub fn say_merged(rt: &HostRuntime, merged: &Merged, named: &CommandFiles<'_>) {
     if let Ok(news) = merged.news(rt.alloc()) {
         say(rt, &news, named);
     }

@@ -6,7 +6,8 @@ use cli_open::engines::streams::Writing;
 use cli_open::engines::{CliFault, Keep, Store, run_change, run_print};
 use cli_open::guards::{OfficeFile, TriedFile, TriedShelf};
 use cli_open::{
-    OpenOffice, Opened, Rows, answered, explains, open_office, open_register, open_target, word,
+    OpenOffice, OpenedRegister, Rows, answered, explains, open_office, open_register, open_target,
+    word,
 };
 use reg_catch::{CatchUp, Catching, WouldCatchUp, caught_up};
 use reg_watch::{Notes, Watched};
@@ -93,7 +94,7 @@ fn try_to<W: Write>(
 ) -> Result<Option<Gained>, CliFault> {
     let tells = explains(matches);
     match open_register(rt, rt.alloc(), matches, "REG", &None)? {
-        Opened::File(source) => {
+        OpenedRegister::File(source) => {
             let mut source = source;
             let mut store = TriedFile {
                 source: &mut source,
@@ -101,7 +102,7 @@ fn try_to<W: Write>(
             };
             printed(rt.alloc(), &mut store, file, tells, sink)
         }
-        Opened::Shelf(disk) => {
+        OpenedRegister::Shelf(disk) => {
             let mut disk = disk;
             let mut store = TriedShelf {
                 disk: &mut disk,

@@ -1,17 +1,17 @@
 //! Commands that make and exchange registers.
 use crate::brought::say_merged;
 use clap::ArgMatches;
-use cli_faults::{CommandName, Named};
+use cli_faults::{CommandFiles, CommandName};
 use cli_open::engines::disks::NewFile;
 use cli_open::engines::places::FilePlace;
 use cli_open::engines::shelf::is_size;
 use cli_open::engines::{CliFault, Refusal, ShelfProblem};
 use cli_open::{
-    Opened, Replaced, explains, give_of, lock_new_shelf, next_file, open, open_all, open_inputs,
-    open_register, open_shelf, open_to_read, parts, place, reserve, word,
+    OpenedRegister, Replaced, explains, give_of, lock_new_shelf, next_file, open, open_all,
+    open_inputs, open_register, open_shelf, open_to_read, parts, place, reserve, word,
 };
 use reg_commands::{
-    FirstVersion, PieceFor, Summary, Whole, run_merge, run_merge_on, run_new, run_shelf,
+    FirstVersion, PieceFor, SeenFile, Whole, run_merge, run_merge_on, run_new, run_shelf,
 };
 use reg_merge::{Merged, merge_files, merge_shelf};
 use std::fs::{self, File, OpenFile};
@@ -48,7 +48,7 @@ pub fn merge(rt: &HostRuntime, matches: &ArgMatches<'_>) -> Result<(), CliFault>
 // The memory of the registers is not freed, as in `run_merge`.
 fn merge_and_tell(rt: &HostRuntime, matches: &ArgMatches<'_>) -> Result<(), CliFault> {
     let merged = merge_registers(rt, matches)?;
-    if let Ok(named) = Named::of(rt, CommandName::Merge, matches) {
+    if let Ok(named) = CommandFiles::of(rt, CommandName::Merge, matches) {
         say_merged(rt, &merged, &named);
     }
     forget(merged);
@@ -82,7 +82,10 @@ fn place_over<'a>(
 }
 
 // Opens the register whose file is written to OUT.
-fn open_to_give(rt: &HostRuntime, matches: &ArgMatches<'_>) -> Result<Opened<File>, CliFault> {
+fn open_to_give(
+    rt: &HostRuntime,
+    matches: &ArgMatches<'_>,
+) -> Result<OpenedRegister<File>, CliFault> {
     let out = Some(Replaced::named(rt, rt.alloc(), matches, "OUT")?);
     open_register(rt, rt.alloc(), matches, "REG", &out)
 }
@@ -91,7 +94,7 @@ fn open_to_give(rt: &HostRuntime, matches: &ArgMatches<'_>) -> Result<Opened<Fil
 pub fn seen(rt: &HostRuntime, matches: &ArgMatches<'_>) -> Result<(), CliFault> {
     let place = place_over(rt, word(matches, "OUT"), &[word(matches, "REG")])?;
     let register = open_to_give(rt, matches)?;
-    give_of(rt, register, &mut Summary, place)
+    give_of(rt, register, &mut SeenFile, place)
 }
 
 /// `piece`.
@@ -144,5 +147,5 @@ fn sync_folder<R: Files>(rt: &R, path: &str) -> Result<(), CliFault> {
 pub fn unshelf(rt: &HostRuntime, matches: &ArgMatches<'_>) -> Result<(), CliFault> {
     let disk = open_to_read(rt, word(matches, "SHELF"))?;
     let place = place(rt, rt.alloc(), word(matches, "OUT"))?;
-    give_of(rt, Opened::Shelf(disk), &mut Whole, place)
+    give_of(rt, OpenedRegister::Shelf(disk), &mut Whole, place)
 }

@@ -18,13 +18,13 @@ const HEAD: usize = 64;
 
 /// The first bytes of a plain file.
 #[derive(Drop)]
-pub struct Head {
+pub struct FileHead {
     bytes: [u8; HEAD],
 }
 
-impl Head {
+impl FileHead {
     /// Those of the file at a path, and zeros if it has fewer. None if it is no plain file, or cannot be read.
-    pub fn at<R: Files>(rt: &R, path: &str) -> Option<Head> {
+    pub fn at<R: Files>(rt: &R, path: &str) -> Option<FileHead> {
         match fs::metadata(rt, path) {
             Ok(there) if there.is_file() => {}
             _ => return None,
@@ -32,7 +32,7 @@ impl Head {
         let mut file = fs::open(rt, path).ok()?;
         let mut bytes = [0; HEAD];
         let _ = file.read(&mut bytes).ok()?;
-        Some(Head { bytes })
+        Some(FileHead { bytes })
     }
 
     /// Whether an office file begins so: with its UUID and the last number, a second number, and a register.

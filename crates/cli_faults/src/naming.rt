@@ -1,14 +1,14 @@
 //! What is found if the files of a command are read once more after its fault, for the sentence about it.
-use crate::heads::Head;
+use crate::heads::FileHead;
 use crate::namesakes::has_namesake;
-use crate::paths::Named;
+use crate::paths::CommandFiles;
 use cli_open::engines::files::FileFault;
 use cli_open::engines::operations::OpId;
 use cli_open::engines::registers::Register;
 use cli_open::engines::streams::read_up_to;
 use cli_open::engines::{CliFault, InputFault, OfFile, OnShelf, OutFault, Print, Refusal, Store};
 use cli_open::{open, open_to_read};
-use cli_sentences::{Command, FileName, Found, Looks, Paths};
+use cli_sentences::{FileName, Findings, Looks, Paths, SpecialCommand};
 use reg_texts::Heading;
 use std::{fs, str};
 
@@ -17,17 +17,17 @@ const START: usize = 256;
 
 /// What was found.
 #[derive(Drop)]
-pub struct Second {
+pub struct SecondLook {
     head: Option<Vec<u8>>,
     has_namesake: bool,
     looks: Looks,
     is_written: bool,
 }
 
-impl Second {
+impl SecondLook {
     /// Reads the files again. The entry is the one that the fault is about.
-    pub fn look(rt: &HostRuntime, named: &Named<'_>, fault: &CliFault) -> Second {
-        Second {
+    pub fn look(rt: &HostRuntime, named: &CommandFiles<'_>, fault: &CliFault) -> SecondLook {
+        SecondLook {
             head: match taken_by(fault) {
                 Some(entry) => heading(rt, named, entry),
                 None => None,
@@ -42,8 +42,8 @@ impl Second {
     }
 
     /// What was found if only an entry is looked up.
-    pub fn entry(rt: &HostRuntime, named: &Named<'_>, entry: OpId) -> Second {
-        Second {
+    pub fn entry(rt: &HostRuntime, named: &CommandFiles<'_>, entry: OpId) -> SecondLook {
+        SecondLook {
             head: heading(rt, named, entry),
             has_namesake: false,
             looks: Looks::Unknown,
@@ -52,13 +52,13 @@ impl Second {
     }
 
     /// The same, borrowed.
-    pub fn found(&self) -> Found<'_> {
+    pub fn found(&self) -> Findings<'_> {
         self.found_for("")
     }
 
     /// The same for a fault about a word of a list; the word is empty if it is about none.
-    pub fn found_for<'a>(&'a self, word: &'a str) -> Found<'a> {
-        Found {
+    pub fn found_for<'a>(&'a self, word: &'a str) -> Findings<'a> {
+        Findings {
             head: match &self.head {
                 Some(head) => str::from_utf8(head).ok(),
                 None => None,
@@ -72,11 +72,11 @@ impl Second {
 }
 
 /// The files of the command, with the shelf that the fault is about, and without an output of which nothing is known.
-pub fn paths_at<'a>(rt: &HostRuntime, named: &'a Named<'_>, fault: &CliFault) -> Paths<'a> {
+pub fn paths_at<'a>(rt: &HostRuntime, named: &'a CommandFiles<'_>, fault: &CliFault) -> Paths<'a> {
     let mut paths = named.paths();
     match fault {
         CliFault::Shelf(_) => {
-            if let Command::Status = named.command {
+            if let SpecialCommand::Status = named.command {
                 paths.shelf = unread_shelf(rt, named);
             }
         }
@@ -99,7 +99,11 @@ fn taken_by(fault: &CliFault) -> Option<OpId> {
 }
 
 // Whether a word was refused since it is several keys, and not since one key has several texts.
-fn is_of_several_keys(rt: &HostRuntime, named: &Named<'_>, fault: &CliFault) -> Option<bool> {
+fn is_of_several_keys(
+    rt: &HostRuntime,
+    named: &CommandFiles<'_>,
+    fault: &CliFault,
+) -> Option<bool> {
     match fault {
         CliFault::Refused(Refusal::Several(entry)) => {
             let register = read_again(rt, named)?;
@@ -110,14 +114,14 @@ fn is_of_several_keys(rt: &HostRuntime, named: &Named<'_>, fault: &CliFault) -> 
 }
 
 // The key, the id and the status of an entry of the register that the command read, if it has this entry and can be read again.
-fn heading(rt: &HostRuntime, named: &Named<'_>, entry: OpId) -> Option<Vec<u8>> {
+fn heading(rt: &HostRuntime, named: &CommandFiles<'_>, entry: OpId) -> Option<Vec<u8>> {
     let register = read_again(rt, named)?;
     let command = Heading { entry };
     command.text(rt.alloc(), &register).ok()
 }
 
 // The register that the command read. None if it cannot be read again, as from a pipe.
-fn read_again(rt: &HostRuntime, named: &Named<'_>) -> Option<Register> {
+fn read_again(rt: &HostRuntime, named: &CommandFiles<'_>) -> Option<Register> {
     if named.shelf.is_empty() {
         in_file(rt, named.register)
     } else {
@@ -156,7 +160,7 @@ fn is_shelf(rt: &HostRuntime, path: &str) -> bool {
 }
 
 // The first shelf of `status` that cannot be read.
-fn unread_shelf<'a>(rt: &HostRuntime, named: &'a Named<'_>) -> &'a str {
+fn unread_shelf<'a>(rt: &HostRuntime, named: &'a CommandFiles<'_>) -> &'a str {
     for file in &named.files {
         if let FileName::Path(path) = file {
             if named.files.len() == 1 || !is_shelf(rt, *path) {
@@ -168,7 +172,7 @@ fn unread_shelf<'a>(rt: &HostRuntime, named: &'a Named<'_>) -> &'a str {
 }
 
 // What the file is that the fault is about, if it is no file of crsreg.
-fn looks_of(rt: &HostRuntime, named: &Named<'_>, fault: &CliFault) -> Looks {
+fn looks_of(rt: &HostRuntime, named: &CommandFiles<'_>, fault: &CliFault) -> Looks {
     let number = match fault {
         CliFault::File {
             number,
@@ -199,7 +203,7 @@ fn looks_at(rt: &HostRuntime, path: &str) -> Looks {
 }
 
 fn is_office(rt: &HostRuntime, path: &str) -> Option<bool> {
-    let head = Head::at(rt, path)?;
+    let head = FileHead::at(rt, path)?;
     Some(head.is_office())
 }
 

@@ -2,7 +2,7 @@
 use clap::ArgMatches;
 use cli_open::engines::places::FileId;
 use cli_open::{Name, STANDARD_INPUT, names, office_file, word};
-use cli_sentences::{Command, FileName, Paths};
+use cli_sentences::{FileName, Paths, SpecialCommand};
 use cli_words::{CommandName, CommandRow, Role};
 use std::alloc::AllocError;
 use std::fs;
@@ -10,18 +10,18 @@ use std::os::unix::fs::MetadataExt;
 
 /// A file, and when it was last written.
 #[derive(Clone, Copy, PartialEq, Eq)]
-pub struct Written {
+pub struct LastWrite {
     file: FileId,
     second: i64,
     nanosecond: i64,
 }
 
-impl Written {
+impl LastWrite {
     // The file that the path leads to, if there is one.
-    fn at(rt: &HostRuntime, path: &str) -> Option<Written> {
+    fn at(rt: &HostRuntime, path: &str) -> Option<LastWrite> {
         let file = FileId::at(rt, path)?;
         let times = fs::metadata(rt, path).ok()?;
-        Some(Written {
+        Some(LastWrite {
             file,
             second: times.mtime(),
             nanosecond: times.mtime_nsec(),
@@ -31,8 +31,8 @@ impl Written {
 
 /// A command and its files.
 #[derive(Drop)]
-pub struct Named<'a> {
-    pub command: Command,
+pub struct CommandFiles<'a> {
+    pub command: SpecialCommand,
     /// Whether `--keep-going` is given.
     pub keeps_going: bool,
     /// The files that it reads, in the order of their numbers; for `status`, its shelves.
@@ -44,7 +44,7 @@ pub struct Named<'a> {
     /// The file that it writes, if any.
     pub out: &'a str,
     /// What was there before the command, if anything.
-    pub before: Option<Written>,
+    pub before: Option<LastWrite>,
     /// Its shelf, if any.
     pub shelf: &'a str,
     /// Whether it changes its shelf.
@@ -53,13 +53,13 @@ pub struct Named<'a> {
     pub names: Vec<Name>,
 }
 
-impl<'a> Named<'a> {
+impl<'a> CommandFiles<'a> {
     /// The files of the command.
     pub fn of(
         rt: &HostRuntime,
         name: CommandName,
         matches: &ArgMatches<'a>,
-    ) -> Result<Named<'a>, AllocError> {
+    ) -> Result<CommandFiles<'a>, AllocError> {
         let row = name.row();
         let shelf = row.shelf(matches.get_flag("shelf")).unwrap_or("");
         let is_dry = matches.get_flag("dry-run");
@@ -68,14 +68,14 @@ impl<'a> Named<'a> {
         } else {
             out_named(row, matches, shelf)
         };
-        Ok(Named {
+        Ok(CommandFiles {
             command: command_of(name, matches),
             keeps_going: matches.get_flag("keep-going"),
             files: files_named(rt, row, matches, shelf)?,
             has_office: office_file(matches).is_some(),
             register: word(matches, row.register().unwrap_or("")),
             out,
-            before: Written::at(rt, out),
+            before: LastWrite::at(rt, out),
             shelf: word(matches, shelf),
             changes_shelf: !shelf.is_empty() && !is_dry && row.keeps_shelf(),
             names: names_if_read(rt, matches)?,
@@ -101,7 +101,7 @@ impl<'a> Named<'a> {
         if self.changes_shelf {
             return true;
         }
-        match (self.before, Written::at(rt, self.out)) {
+        match (self.before, LastWrite::at(rt, self.out)) {
             (Some(before), Some(now)) => now.file != before.file,
             (before, now) => before.is_none() && now.is_some(),
         }
@@ -109,7 +109,7 @@ impl<'a> Named<'a> {
 
     /// Whether the output has other bytes than before, perhaps not all of them: it was written in place.
     pub fn is_written_in_place(&self, rt: &HostRuntime) -> bool {
-        match (self.before, Written::at(rt, self.out)) {
+        match (self.before, LastWrite::at(rt, self.out)) {
             (Some(before), Some(now)) => now.file == before.file && now != before,
             _ => false,
         }
@@ -126,25 +126,25 @@ fn names_if_read(rt: &HostRuntime, matches: &ArgMatches<'_>) -> Result<Vec<Name>
 }
 
 // The command, if it has sentences of its own.
-fn command_of(name: CommandName, matches: &ArgMatches<'_>) -> Command {
+fn command_of(name: CommandName, matches: &ArgMatches<'_>) -> SpecialCommand {
     match name {
-        CommandName::Export => Command::Export,
-        CommandName::Find | CommandName::Log => Command::Find,
-        CommandName::Import => Command::Import {
+        CommandName::Export => SpecialCommand::Export,
+        CommandName::Find | CommandName::Log => SpecialCommand::Find,
+        CommandName::Import => SpecialCommand::Import {
             revises: word(matches, "differs") == "revise",
         },
-        CommandName::Lint => Command::Lint,
-        CommandName::Diff | CommandName::Merge => Command::Merge,
-        CommandName::Office => Command::Office,
-        CommandName::Settle => Command::Settle,
-        CommandName::Shelf => Command::Shelf,
-        CommandName::Status => Command::Status,
-        CommandName::Take => Command::Take,
-        CommandName::Unshelf => Command::Unshelf,
-        CommandName::Supersede if matches.contains_id("from") => Command::SupersedeFrom {
+        CommandName::Lint => SpecialCommand::Lint,
+        CommandName::Diff | CommandName::Merge => SpecialCommand::Merge,
+        CommandName::Office => SpecialCommand::Office,
+        CommandName::Settle => SpecialCommand::Settle,
+        CommandName::Shelf => SpecialCommand::Shelf,
+        CommandName::Status => SpecialCommand::Status,
+        CommandName::Take => SpecialCommand::Take,
+        CommandName::Unshelf => SpecialCommand::Unshelf,
+        CommandName::Supersede if matches.contains_id("from") => SpecialCommand::SupersedeFrom {
             keys: matches.get_flag("keys"),
         },
-        _ => Command::Other,
+        _ => SpecialCommand::Other,
     }
 }
 

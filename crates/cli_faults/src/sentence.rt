@@ -1,6 +1,6 @@
 //! Prints the sentence of a fault, and explanations, below the line of the fault.
-use crate::naming::{Second, paths_at};
-use crate::paths::Named;
+use crate::naming::{SecondLook, paths_at};
+use crate::paths::CommandFiles;
 use cli_open::engines::CliFault;
 use cli_open::{Name, named};
 use cli_sentences::{FileName, Sentence, Shown, ShownLines};
@@ -8,19 +8,24 @@ use std::alloc::{AllocError, Global};
 use std::{fmt, str};
 
 /// Prints the sentence of a fault to standard error, below its line.
-pub fn explain(rt: &HostRuntime, fault: CliFault, named: &Option<Named<'_>>) {
+pub fn explain(rt: &HostRuntime, fault: CliFault, named: &Option<CommandFiles<'_>>) {
     explain_word(rt, fault, "", named);
 }
 
 /// The same for a fault about a word of a list; the word is empty if it is about none.
-pub fn explain_word(rt: &HostRuntime, fault: CliFault, word: &str, named: &Option<Named<'_>>) {
+pub fn explain_word(
+    rt: &HostRuntime,
+    fault: CliFault,
+    word: &str,
+    named: &Option<CommandFiles<'_>>,
+) {
     if let Some(named) = named {
         explain_in(rt, fault, word, named);
     }
 }
 
-fn explain_in(rt: &HostRuntime, fault: CliFault, word: &str, named: &Named<'_>) {
-    let second = Second::look(rt, named, &fault);
+fn explain_in(rt: &HostRuntime, fault: CliFault, word: &str, named: &CommandFiles<'_>) {
+    let second = SecondLook::look(rt, named, &fault);
     let sentence = Sentence {
         fault,
         found: second.found_for(word),
@@ -31,7 +36,7 @@ fn explain_in(rt: &HostRuntime, fault: CliFault, word: &str, named: &Named<'_>) 
 
 /// Prints a sentence to standard error, with the names of offices in the place of their UUIDs. Hints keep the UUIDs, since a command
 /// line takes no names.
-pub fn say<D: fmt::Display>(rt: &HostRuntime, sentence: &D, named: &Named<'_>) {
+pub fn say<D: fmt::Display>(rt: &HostRuntime, sentence: &D, named: &CommandFiles<'_>) {
     if !named.names.is_empty() {
         if let Ok(text) = format!(in rt.alloc(); "{sentence}") {
             return say_lines(rt, text.as_str(), &named.names);
@@ -63,7 +68,7 @@ fn shown_line(alloc: Global, line: &str, names: &[Name]) -> Result<String, Alloc
 }
 
 /// Prints explanations of texts to standard error, below the line of the fault. They are UTF-8.
-pub fn add(rt: &HostRuntime, notes: &[u8], named: &Option<Named<'_>>) {
+pub fn add(rt: &HostRuntime, notes: &[u8], named: &Option<CommandFiles<'_>>) {
     let Ok(notes) = str::from_utf8(notes) else {
         return;
     };
@@ -85,7 +90,7 @@ pub fn print_lines(rt: &HostRuntime, lines: &str) {
 }
 
 // Whether a name has several lines.
-fn has_long_names(named: &Named<'_>) -> bool {
+fn has_long_names(named: &CommandFiles<'_>) -> bool {
     for file in &named.files {
         if let FileName::Path(path) = file {
             if path.contains('\n') {
@@ -97,7 +102,11 @@ fn has_long_names(named: &Named<'_>) -> bool {
 }
 
 // The explanations, which name files as they are. A name of several lines is shown as one, so that it does not look like an explanation.
-fn with_shown_names(alloc: Global, notes: &str, named: &Named<'_>) -> Result<String, AllocError> {
+fn with_shown_names(
+    alloc: Global,
+    notes: &str,
+    named: &CommandFiles<'_>,
+) -> Result<String, AllocError> {
     let mut text = String::from_str(alloc, notes)?;
     for file in &named.files {
         if let FileName::Path(path) = file {

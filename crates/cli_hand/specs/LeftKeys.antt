@@ -3,7 +3,7 @@ use Rattle.std.specs.Prelude.{◌≡◌, false, List, [], ◌∷◌, ◌++◌, O
 use Rattle.reg_op.specs.Ids.{Id}
 use Rattle.reg_engine.specs.declared.fault.CliFault.{CliFault}
 use Rattle.reg_engine.specs.declared.fault.CliFault.TheVariants as cli
-use Rattle.reg_export.specs.declared.into_rows.LeftOut.{LeftOut}
+use Rattle.reg_export.specs.declared.into_rows.LeftOutOfFolder.{LeftOutOfFolder}
 use Rattle.cli_outcome.specs.declared.outcome.Done.{Done}
 use Rattle.cli_outcome.specs.declared.outcome.NotDone.{NotDone}
 use Rattle.cli_outcome.specs.declared.outcome.NotDone.TheVariants as stop
@@ -19,7 +19,7 @@ taken_key None = []
 taken_key (Some id) = key.Taken id ∷ []
 
 -- the command is done, and left out these keys beside those before, one with a long name first, unless memory ran out
-abbrev pub IsExported : {B : Type 0} → List LeftKey → LeftOut → Result (Done LeftKey B) (NotDone CliFault) → Type 0
+abbrev pub IsExported : {B : Type 0} → List LeftKey → LeftOutOfFolder → Result (Done LeftKey B) (NotDone CliFault) → Type 0
 IsExported before keys (Ok d) = (d.left.items ≡ before ++ long_key keys.long ++ taken_key keys.taken) × (d.differs ≡ false)
 IsExported before keys (Err (stop.Fault f)) = f ≡ cli.Memory
 IsExported before keys (Err (stop.Misuse line)) = ⊥

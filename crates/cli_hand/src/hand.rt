@@ -8,7 +8,7 @@ use cli_open::engines::streams::Writing;
 use cli_open::{names_again, open_register, print_of, wanted, word};
 use cli_outcome::{NotDone, ended};
 use reg_commands::Export;
-use reg_export::{Choice, Format, Graph, LeftOut, run_handed};
+use reg_export::{Choice, Format, Graph, LeftOutOfFolder, run_handed};
 use std::io;
 
 const NOT_HANDED: &str =
@@ -78,7 +78,7 @@ fn export_as(
         Err(fault) => return Err(NotDone::Fault(fault)),
     };
     match print_as(rt, matches, format, choice, keep_going) {
-        Ok(taken) => left_out(room, &LeftOut { taken, long: None }),
+        Ok(taken) => left_out(room, &LeftOutOfFolder { taken, long: None }),
         Err(fault) => Err(NotDone::Fault(fault)),
     }
 }

@@ -5,7 +5,7 @@ use clap::ArgMatches;
 use cli_open::engines::CliFault;
 use cli_open::{open_register, word};
 use cli_outcome::NotDone;
-use reg_export::{Choice, LeftOut, run_into};
+use reg_export::{Choice, LeftOutOfFolder, run_into};
 
 /// Opens the register, and puts a folder with a file for each key in place.
 pub fn export_into(
@@ -29,7 +29,7 @@ fn put_into(
     matches: &ArgMatches<'_>,
     choice: &Choice<'_>,
     keep_going: bool,
-) -> Result<LeftOut, CliFault> {
+) -> Result<LeftOutOfFolder, CliFault> {
     let Ok(mut place) = SystemFolder::new(rt.alloc(), rt, word(matches, "into")) else {
         return Err(CliFault::Memory);
     };

@@ -6,7 +6,7 @@ ghost use Rattle.cli_hand.specs.LeftKeys.{long_key, taken_key, IsExported};
 use cli_open::engines::CliFault;
 use cli_open::engines::operations::OpId;
 use cli_outcome::{Done, NotDone, Outcome};
-use reg_export::LeftOut;
+use reg_export::LeftOutOfFolder;
 use std::alloc::Global;
 
 /// A key that was left out.
@@ -63,7 +63,7 @@ fn with_taken(left: Vec<LeftKey>, id: Option<OpId>) -> Result<Vec<LeftKey>, CliF
 }
 
 /// The outcome of an export that is done.
-pub fn left_out(room: Vec<LeftKey>, keys: &LeftOut) -> Exported
+pub fn left_out(room: Vec<LeftKey>, keys: &LeftOutOfFolder) -> Exported
     ensures { IsExported room.items keys.now result }
 {
     let left = match with_long(room, keys.long) {

@@ -3,7 +3,7 @@ use clap::ArgMatches;
 use cli_open::engines::CliFault;
 use cli_open::engines::streams::Writing;
 use cli_open::{entry, names_again, open_register, print_of, word};
-use reg_commands::{ByWord, Form, Ops, PrintOf, Show, ShowOf, Wkt, WktOf};
+use reg_commands::{ByWord, Form, OpsReport, PrintOf, Show, ShowOf, Wkt, WktOf};
 use reg_page::{Page, RULES, run_page};
 use std::io;
 
@@ -63,7 +63,7 @@ fn print_by_word<C: PrintOf>(
 
 /// `ops`.
 pub fn ops(rt: &HostRuntime, matches: &ArgMatches<'_>) -> Result<(), CliFault> {
-    print_of(rt, matches, &Ops)
+    print_of(rt, matches, &OpsReport)
 }
 
 /// `page`.

@@ -3,7 +3,7 @@ use clap::ArgMatches;
 use cli_change::{Desk, change_once, office_named, open_desk};
 use cli_open::engines::places::Place;
 use cli_open::engines::streams::Source;
-use cli_open::{Target, explains, files_before, open, open_target, word};
+use cli_open::{RegisterTarget, explains, files_before, open, open_target, word};
 use cli_outcome::{Outcome, ended};
 use reg_desk::{CliFault, Enter, Explained, Recorded, explained_fault};
 use std::alloc::Global;
@@ -54,7 +54,7 @@ fn enter_text<Q: Place, P: Place + Drop, X: Source>(
     rt: &HostRuntime,
     matches: &ArgMatches<'_>,
     desk: &mut Desk<Q>,
-    target: Target<File, P>,
+    target: RegisterTarget<File, P>,
     text: &mut X,
 ) -> Result<(), CliFault> {
     let command = Enter {

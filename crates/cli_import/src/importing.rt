@@ -8,8 +8,8 @@ use cli_open::engines::places::Place;
 use cli_open::engines::{Either, Keep};
 use cli_open::guards::{OfficeFile, TriedFile, TriedShelf};
 use cli_open::{
-    Rows, STANDARD_INPUT, STANDARD_INPUT_PATH, Target, answered, explains, files_before, is_twice,
-    open_target, word,
+    RegisterTarget, Rows, STANDARD_INPUT, STANDARD_INPUT_PATH, answered, explains, files_before,
+    is_twice, open_target, word,
 };
 use cli_outcome::{NotDone, Outcome, all_done};
 use reg_desk::{
@@ -172,7 +172,7 @@ fn import_from<Q: Place, P: Place + Drop, S: Source>(
     rt: &HostRuntime,
     matches: &ArgMatches<'_>,
     desk: &mut Desk<Q>,
-    target: Target<File, P>,
+    target: RegisterTarget<File, P>,
     files: &mut [S],
     names: &[String],
     brought: &mut Brought,
@@ -218,7 +218,7 @@ fn import_to<Q: Place, P: Place + Drop, S: Source, W: Write>(
     rt: &HostRuntime,
     matches: &ArgMatches<'_>,
     desk: &mut Desk<Q>,
-    target: Target<File, P>,
+    target: RegisterTarget<File, P>,
     files: &mut [S],
     order: &ImportOptions<'_>,
     sink: &mut Writing<W>,
@@ -267,7 +267,7 @@ fn import_tried<F: Read + Write + Seek + OpenFile + Drop, P: Place + Drop, S: So
     rt: &HostRuntime,
     matches: &ArgMatches<'_>,
     office: Option<&OfficeFile>,
-    target: Target<F, P>,
+    target: RegisterTarget<F, P>,
     files: &mut [S],
     order: &ImportOptions<'_>,
     sink: &mut Writing<W>,
@@ -314,7 +314,7 @@ type AdmittedRegister<'a, F> = Either<
 >;
 
 fn tried<'a, F, P>(
-    target: &'a mut Target<F, P>,
+    target: &'a mut RegisterTarget<F, P>,
     office: Option<&'a OfficeFile>,
 ) -> Either<ReadRegister<'a, F>, AdmittedRegister<'a, F>> {
     match office {
@@ -323,19 +323,19 @@ fn tried<'a, F, P>(
     }
 }
 
-fn read_only<'a, F, P>(target: &'a mut Target<F, P>) -> ReadRegister<'a, F> {
+fn read_only<'a, F, P>(target: &'a mut RegisterTarget<F, P>) -> ReadRegister<'a, F> {
     match target {
-        Target::File(source, _) => Either::One(OfFile { source }),
-        Target::Shelf(disk) => Either::Other(OnShelf { disk }),
+        RegisterTarget::File(source, _) => Either::One(OfFile { source }),
+        RegisterTarget::Shelf(disk) => Either::Other(OnShelf { disk }),
     }
 }
 
 fn admitted<'a, F, P>(
-    target: &'a mut Target<F, P>,
+    target: &'a mut RegisterTarget<F, P>,
     file: &'a OfficeFile,
 ) -> AdmittedRegister<'a, F> {
     match target {
-        Target::File(source, _) => Either::One(TriedFile { source, file }),
-        Target::Shelf(disk) => Either::Other(TriedShelf { disk, file }),
+        RegisterTarget::File(source, _) => Either::One(TriedFile { source, file }),
+        RegisterTarget::Shelf(disk) => Either::Other(TriedShelf { disk, file }),
     }
 }

@@ -1,7 +1,7 @@
 //! Commands that print something of a text, of a register, or of several registers.
 use byte_io::LateFile;
 use clap::ArgMatches;
-use cli_faults::{Named, say};
+use cli_faults::{CommandFiles, say};
 use cli_open::{
     Rows, STANDARD_INPUT, answered, entries, explains, next_file, open, open_all, open_register,
     open_to_read, print_of, push_words, wanted, word,
@@ -9,8 +9,8 @@ use cli_open::{
 use cli_outcome::{NotDone, Outcome, difference, ended};
 use reg_desk::{
     CliFault, Comparison, Explained, FileDisk, Find, FindIds, Kind, LateAt, Lockable, LogAll,
-    LogByWords, LogOf, Offices, Opened, Point, Query, Reading, Recorded, ShelfAt, Source, Writing,
-    run_check, run_check_explained, run_diff, run_status,
+    LogByWords, LogOf, Offices, OpenedDisk, Point, Query, Reading, Recorded, ShelfAt, Source,
+    Writing, run_check, run_check_explained, run_diff, run_status,
 };
 use reg_hidden::hidden_in;
 use reg_texts::Texts;
@@ -214,8 +214,8 @@ where
     let mut shelves = Vec::new(alloc);
     for path in paths {
         let shelf = match open_to_read(rt, *path) {
-            Ok(disk) => Opened::Source(disk),
-            Err(_) => Opened::NotOpened,
+            Ok(disk) => OpenedDisk::Source(disk),
+            Err(_) => OpenedDisk::NotOpened,
         };
         shelves.push(ShelfAt { opened: shelf })?;
     }
@@ -235,7 +235,7 @@ pub fn diff(rt: &HostRuntime, matches: &ArgMatches<'_>) -> Outcome<CliFault, Cli
 
 /// Says what no row shows of the newer register, and what cannot be undone of it, if sentences are asked for and there is memory for
 /// them.
-pub fn say_hidden(rt: &HostRuntime, found: &Comparison, named: &Option<Named<'_>>) {
+pub fn say_hidden(rt: &HostRuntime, found: &Comparison, named: &Option<CommandFiles<'_>>) {
     let Some(named) = named else {
         return;
     };

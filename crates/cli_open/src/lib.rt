@@ -18,9 +18,9 @@ pub use lines::{MISUSE, complain, failed, print};
 pub use naming::{NamesProblem, names, names_again};
 pub use offices::{OpenOffice, office_at, open_office};
 pub use shelves::{lock_new_shelf, open_shelf, open_to_read};
-pub use stores::{Opened, ReadRegister, give_of, next_file, open_register, print_of};
+pub use stores::{OpenedRegister, ReadRegister, give_of, next_file, open_register, print_of};
 pub use table::{Rows, answered, is_table};
-pub use targets::{Target, open_target};
+pub use targets::{RegisterTarget, open_target};
 pub use waiting::{patience, reserve};
 pub use words::{
     STANDARD_INPUT, STANDARD_INPUT_PATH, changed_place, entries, entry, explains, files_before,

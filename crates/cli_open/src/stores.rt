@@ -21,7 +21,7 @@ use std::rt::Files;
 
 /// A register that was opened.
 #[derive(Drop)]
-pub enum Opened<F> {
+pub enum OpenedRegister<F> {
     File(InputOf<Reading<F>>),
     Shelf(FileDisk<F>),
 }
@@ -29,23 +29,23 @@ pub enum Opened<F> {
 /// The store of a register that is only read.
 pub type ReadRegister<F> = Either<ReadFile<InputOf<Reading<F>>>, ReadShelf<FileDisk<F>>>;
 
-impl<F> Opened<F> {
+impl<F> OpenedRegister<F> {
     /// The store of a command that only reads the register.
     pub fn reading(self) -> ReadRegister<F> {
         match self {
-            Opened::File(source) => Either::One(ReadFile::new(source)),
-            Opened::Shelf(disk) => Either::Other(ReadShelf::new(disk)),
+            OpenedRegister::File(source) => Either::One(ReadFile::new(source)),
+            OpenedRegister::Shelf(disk) => Either::Other(ReadShelf::new(disk)),
         }
     }
 }
 
 /// The number of the first file that is read after the register: a shelf has no number.
-pub fn next_file<F>(register: &Opened<F>) -> usize
+pub fn next_file<F>(register: &OpenedRegister<F>) -> usize
     ensures { result ≡ after_opened register.now }
 {
     match register {
-        Opened::File(_) => 2,
-        Opened::Shelf(_) => 1,
+        OpenedRegister::File(_) => 2,
+        OpenedRegister::Shelf(_) => 1,
     }
 }
 
@@ -56,18 +56,18 @@ pub fn open_register<R: Files>(
     matches: &ArgMatches<'_>,
     name: &str,
     out: &Option<Replaced<'_>>,
-) -> Result<Opened<R::File>, CliFault>
+) -> Result<OpenedRegister<R::File>, CliFault>
 where
     R::File: Lockable,
 {
     let path = word(matches, name);
     if matches.get_flag("shelf") {
         let disk = open_to_read(rt, path)?;
-        return Ok(Opened::Shelf(disk));
+        return Ok(OpenedRegister::Shelf(disk));
     }
     let number = files_before(matches).saturating_add(1);
     let source = open_input(rt, alloc, number, path, out)?;
-    Ok(Opened::File(source))
+    Ok(OpenedRegister::File(source))
 }
 
 /// Opens the register and prints the command's text of it, or with `--table` the table of its rows.
@@ -97,7 +97,7 @@ fn print_to<C: Print, W: Write>(
 /// Writes the command's file of the register to the place.
 pub fn give_of<F: Read + Write + Seek + OpenFile + Drop, C: Give, P: Place + Drop>(
     rt: &HostRuntime,
-    register: Opened<F>,
+    register: OpenedRegister<F>,
     command: &mut C,
     place: P,
 ) -> Result<(), CliFault> {

@@ -18,7 +18,7 @@ use std::fs::File;
 
 /// A register that a command changes: its file and the place of the next one, or its shelf.
 #[derive(Drop)]
-pub enum Target<F, P> {
+pub enum RegisterTarget<F, P> {
     File(InputOf<Reading<F>>, P),
     Shelf(FileDisk<F>),
 }
@@ -41,14 +41,14 @@ pub type ChangedRegister<'a, F, P, Q> = Either<
     GuardedRegister<'a, F, P, Q>,
 >;
 
-impl<F, P> Target<F, P> {
+impl<F, P> RegisterTarget<F, P> {
     /// The number of the first file that is read after the register: a shelf has no number.
     pub fn next(&self) -> usize
         ensures { result ≡ after_target self.now }
     {
         match self {
-            Target::File(_, _) => 2,
-            Target::Shelf(_) => 1,
+            RegisterTarget::File(_, _) => 2,
+            RegisterTarget::Shelf(_) => 1,
         }
     }
 
@@ -75,8 +75,8 @@ impl<F, P> Target<F, P> {
     /// The store of a command without an office file.
     pub fn plain<'a>(&'a mut self) -> PlainRegister<'a, F, P> {
         match self {
-            Target::File(source, place) => Either::One(InFile { source, place }),
-            Target::Shelf(disk) => Either::Other(OnShelf { disk }),
+            RegisterTarget::File(source, place) => Either::One(InFile { source, place }),
+            RegisterTarget::Shelf(disk) => Either::Other(OnShelf { disk }),
         }
     }
 
@@ -87,14 +87,14 @@ impl<F, P> Target<F, P> {
         office: &'a mut Q,
     ) -> GuardedRegister<'a, F, P, Q> {
         match self {
-            Target::File(source, place) => Either::One(GuardedFile {
+            RegisterTarget::File(source, place) => Either::One(GuardedFile {
                 source,
                 place,
                 office,
                 file,
                 stood: 0,
             }),
-            Target::Shelf(disk) => Either::Other(GuardedShelf {
+            RegisterTarget::Shelf(disk) => Either::Other(GuardedShelf {
                 disk,
                 office,
                 file,
@@ -110,16 +110,16 @@ pub fn open_target<'a>(
     rt: &'a HostRuntime,
     matches: &ArgMatches<'_>,
     out: &'a str,
-) -> Result<Target<File, FilePlace<'a, HostRuntime>>, CliFault> {
+) -> Result<RegisterTarget<File, FilePlace<'a, HostRuntime>>, CliFault> {
     let register = word(matches, "REG");
     if matches.get_flag("shelf") {
         let disk = open_shelf(rt, register)?;
-        return Ok(Target::Shelf(disk));
+        return Ok(RegisterTarget::Shelf(disk));
     }
     let number = files_before(matches).saturating_add(1);
     let mut place = changed_place(rt, rt.alloc(), out, matches.get_flag("quiet"))?;
     reserve(rt, &mut place, out, &[register])?;
     let replaced = Some(Replaced::at(rt, rt.alloc(), out)?);
     let source = open_input(rt, rt.alloc(), number, register, &replaced)?;
-    Ok(Target::File(source, place))
+    Ok(RegisterTarget::File(source, place))
 }

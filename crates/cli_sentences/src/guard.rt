@@ -1,5 +1,5 @@
 //! Sentences for commands with an office file.
-use crate::paths::{Command, FileName, Paths, Register};
+use crate::paths::{FileName, Paths, RegisterArgument, SpecialCommand};
 use crate::shown::NewBeside;
 use reg_guard::engine::operations::OpId;
 use std::fmt;
@@ -11,7 +11,7 @@ pub fn write_behind<W: fmt::Write>(
     paths: &Paths<'_>,
 ) -> fmt::Result {
     let office = paths.file(1);
-    let register = Register::of(paths);
+    let register = RegisterArgument::of(paths);
     writeln!(
         f,
         "the office of {office} has given {id}, and the register knows no number of this office: it is another register, or a copy from before the office's first command"
@@ -33,7 +33,7 @@ pub fn write_forged<W: fmt::Write>(
         f,
         "{office} does not know {id}: somebody gave this number in the name of its office (with --as, or a second copy of the office file), or the office file was put back from a backup"
     )?;
-    if let Command::Take = paths.command {
+    if let SpecialCommand::Take = paths.command {
         return f.write_str(
             "hint: if a file has it, --keep-going leaves that file out, and --from UUID takes of it only what that office made; if the register has it, go on with a new office, which crsreg office makes\n",
         );
@@ -68,7 +68,7 @@ pub fn write_again<W: fmt::Write>(f: &mut fmt::Formatter<W>, paths: &Paths<'_>) 
         return Ok(());
     }
     let office = paths.file(1);
-    let register = Register::of(paths);
+    let register = RegisterArgument::of(paths);
     writeln!(
         f,
         "hint: where the register does not show this, the office file has it, and crsreg take {register} --office {office} brings it"

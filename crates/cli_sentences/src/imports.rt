@@ -1,6 +1,6 @@
 //! The sentence for a refused import.
-use crate::paths::{Command, FileName, Paths, Register};
-use crate::shown::Head;
+use crate::paths::{FileName, Paths, RegisterArgument, SpecialCommand};
+use crate::shown::EntryHead;
 use reg_guard::engine::operations::OpId;
 use std::fmt;
 
@@ -25,7 +25,7 @@ impl fmt::Display for KeyTaken<'_> {
         let (entry, file) = (self.entry, self.file);
         match self.head {
             Some(head) => {
-                let head = Head(head);
+                let head = EntryHead(head);
                 writeln!(
                     f,
                     "{file}: the register has the key of this text, with another text: {head}"
@@ -36,11 +36,11 @@ impl fmt::Display for KeyTaken<'_> {
                 "{file}: the entry {entry} has the key of this text, and another text",
             )?,
         }
-        let register = Register::of(&self.paths);
+        let register = RegisterArgument::of(&self.paths);
         write!(f, "hint: crsreg compare {register} --with ")?;
         file.write_argument(f)?;
         f.write_str(match self.paths.command {
-            Command::Import { revises: true } =>
+            SpecialCommand::Import { revises: true } =>
                 " shows what differs; --differs revise keeps what this command enters or finds, so leave out one of the two texts; --differs beside enters it as well\n",
             _ =>
                 " shows what differs; --differs beside enters it as well; --differs revise also retires the other entries\n",

@@ -1,6 +1,6 @@
 //! Sentences for files that cannot be read.
 use crate::guard;
-use crate::paths::{Command, FileName, Looks, Paths};
+use crate::paths::{FileName, Looks, Paths, SpecialCommand};
 use reg_guard::engine::InputFault;
 use reg_guard::engine::files::FileFault;
 use std::fmt;
@@ -60,7 +60,7 @@ fn write_many<W: fmt::Write>(
     number: usize,
     paths: &Paths<'_>,
 ) -> fmt::Result {
-    if let Command::Merge = paths.command {
+    if let SpecialCommand::Merge = paths.command {
         if number >= MANY {
             f.write_str(", or too many files are open")?;
         }
@@ -106,7 +106,7 @@ fn write_bad<W: fmt::Write>(
 
 // Whether the command reads a shelf in the place of the file with this number if `--shelf` is given.
 fn could_be_shelf(number: usize, paths: &Paths<'_>) -> bool {
-    if let Command::Status = paths.command {
+    if let SpecialCommand::Status = paths.command {
         return true;
     }
     if !paths.shelf.is_empty() || paths.register.is_empty() {
@@ -126,7 +126,7 @@ fn is_register(number: usize, paths: &Paths<'_>) -> bool {
 // Whether the file with this number is to have rows of `lint`: it reads no other file that is not a text or its register.
 fn is_of_rows(number: usize, paths: &Paths<'_>) -> bool {
     match paths.command {
-        Command::Lint => !is_register(number, paths),
+        SpecialCommand::Lint => !is_register(number, paths),
         _ => false,
     }
 }
@@ -152,7 +152,7 @@ fn write_foreign<W: fmt::Write>(
         Looks::Text => {
             f.write_str("is not a file of crsreg\nhint: it has a text: ")?;
             f.write_str(match paths.command {
-                Command::Lint => "crsreg lint --texts looks at texts\n",
+                SpecialCommand::Lint => "crsreg lint --texts looks at texts\n",
                 _ => "crsreg import reads texts\n",
             })
         }

@@ -11,8 +11,8 @@ mod shelves;
 mod shown;
 
 pub use imports::{KeyTaken, LEAVES_OUT};
-pub use paths::{Command, FileName, Found, Looks, Paths};
-use reg_guard::NoteFault;
+pub use paths::{FileName, Findings, Looks, Paths, SpecialCommand};
+use reg_guard::OfficeFileFault;
 use reg_guard::engine::CliFault;
 pub use shown::{Shown, ShownLines};
 use std::fmt;
@@ -21,7 +21,7 @@ use std::fmt;
 #[derive(Clone, Copy)]
 pub struct Sentence<'a> {
     pub fault: CliFault,
-    pub found: Found<'a>,
+    pub found: Findings<'a>,
     /// The files that the command names.
     pub paths: Paths<'a>,
 }
@@ -36,7 +36,7 @@ impl fmt::Display for Sentence<'_> {
             CliFault::Out(fault) => outputs::write(f, fault, self.found.is_written, &self.paths),
             CliFault::Shelf(problem) => shelves::write(f, problem, &self.paths),
             CliFault::Office(fault) => {
-                guard::write_unnoted(f, fault == NoteFault::TooLarge, &self.paths)
+                guard::write_unnoted(f, fault == OfficeFileFault::TooLarge, &self.paths)
             }
             CliFault::Memory => f.write_str("there is not enough memory\n"),
         }

@@ -1,5 +1,5 @@
 //! Sentences for files that cannot be written.
-use crate::paths::{Command, Paths};
+use crate::paths::{Paths, SpecialCommand};
 use crate::shown::{NewBeside, Shown};
 use reg_guard::engine::OutFault;
 use std::fmt;
@@ -38,11 +38,11 @@ pub fn write<W: fmt::Write>(
 fn write_not_opened<W: fmt::Write>(f: &mut fmt::Formatter<W>, paths: &Paths<'_>) -> fmt::Result {
     let out = Shown(paths.out);
     match paths.command {
-        Command::Office => writeln!(
+        SpecialCommand::Office => writeln!(
             f,
             "{out} cannot be made: it exists already, its folder is not there, you may not write there, or its name has more than 247 bytes"
         ),
-        Command::Export => writeln!(
+        SpecialCommand::Export => writeln!(
             f,
             "{out} cannot be made: it is not an empty folder, the folder around it is not there, you may not write there, or the name of a key's file is too long"
         ),
@@ -57,7 +57,7 @@ fn write_not_opened<W: fmt::Write>(f: &mut fmt::Formatter<W>, paths: &Paths<'_>)
 fn write_new_exists<W: fmt::Write>(f: &mut fmt::Formatter<W>, paths: &Paths<'_>) -> fmt::Result {
     let out = Shown(paths.out);
     match paths.command {
-        Command::Export => writeln!(
+        SpecialCommand::Export => writeln!(
             f,
             "{out}.new is there: another command writes {out}, or one was stopped\nhint: run this command again; if no crsreg runs, remove {out}.new"
         ),

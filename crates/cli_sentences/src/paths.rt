@@ -40,7 +40,7 @@ impl fmt::Display for FileName<'_> {
 
 /// A command with sentences of its own.
 #[derive(Clone, Copy)]
-pub enum Command {
+pub enum SpecialCommand {
     /// `export`, which can leave out keys.
     Export,
     /// `find` and `log`, which look at retired entries too.
@@ -71,7 +71,7 @@ pub enum Command {
 /// A command and its files, as written on the command line.
 #[derive(Clone, Copy)]
 pub struct Paths<'a> {
-    pub command: Command,
+    pub command: SpecialCommand,
     /// Whether `--keep-going` is given.
     pub keeps_going: bool,
     /// The files that it reads, in the order of their numbers. The first is file 1.
@@ -98,21 +98,21 @@ impl<'a> Paths<'a> {
 
 /// The register of a command as its argument REG in a hint: on a shelf, with `--shelf`.
 #[derive(Clone, Copy)]
-pub(crate) struct Register<'a> {
+pub(crate) struct RegisterArgument<'a> {
     path: &'a str,
     is_shelf: bool,
 }
 
-impl<'a> Register<'a> {
-    pub(crate) fn of(paths: &Paths<'a>) -> Register<'a> {
-        Register {
+impl<'a> RegisterArgument<'a> {
+    pub(crate) fn of(paths: &Paths<'a>) -> RegisterArgument<'a> {
+        RegisterArgument {
             path: paths.register,
             is_shelf: !paths.shelf.is_empty(),
         }
     }
 }
 
-impl fmt::Display for Register<'_> {
+impl fmt::Display for RegisterArgument<'_> {
     fn fmt<W: fmt::Write>(&self, f: &mut fmt::Formatter<W>) -> fmt::Result {
         write_argument(f, self.path, "REG")?;
         if self.is_shelf {
@@ -142,7 +142,7 @@ pub enum Looks {
 
 /// What is found if the files are read once more after the fault.
 #[derive(Clone, Copy)]
-pub struct Found<'a> {
+pub struct Findings<'a> {
     /// The key, the id and the status of the entry that the fault names, where they are known.
     pub head: Option<&'a str>,
     /// Whether the word that the fault is about is several keys.

@@ -1,7 +1,7 @@
 //! Sentences for refusals.
 use crate::guard;
-use crate::paths::{Command, Found, Paths, Register};
-use crate::shown::{Head, Shown};
+use crate::paths::{Findings, Paths, RegisterArgument, SpecialCommand};
+use crate::shown::{EntryHead, Shown};
 use reg_guard::engine::Refusal;
 use reg_guard::engine::offices::OfficeFault;
 use reg_guard::engine::operations::OpId;
@@ -11,7 +11,7 @@ use std::fmt;
 pub fn write<W: fmt::Write>(
     f: &mut fmt::Formatter<W>,
     refusal: Refusal,
-    found: &Found<'_>,
+    found: &Findings<'_>,
     paths: &Paths<'_>,
 ) -> fmt::Result {
     match refusal {
@@ -65,7 +65,7 @@ fn write_taken<W: fmt::Write>(
 ) -> fmt::Result {
     match head {
         Some(head) => {
-            let head = Head(head);
+            let head = EntryHead(head);
             writeln!(
                 f,
                 "the key of this entry has another entry with a different text: {head}"
@@ -73,13 +73,13 @@ fn write_taken<W: fmt::Write>(
         }
         None => writeln!(f, "the key of {id} has another entry with a different text")?,
     }
-    let register = Register::of(paths);
+    let register = RegisterArgument::of(paths);
     writeln!(
         f,
         "hint: crsreg compare {register} KEY shows what differs; crsreg settle {register} ID keeps one entry of a key"
     )?;
     match paths.command {
-        Command::Export if !paths.keeps_going => {
+        SpecialCommand::Export if !paths.keeps_going => {
             f.write_str("hint: --keep-going leaves out such keys\n")
         }
         _ => Ok(()),
@@ -124,7 +124,7 @@ fn write_office<W: fmt::Write>(
 fn write_word<W: fmt::Write>(
     f: &mut fmt::Formatter<W>,
     refusal: Refusal,
-    found: &Found<'_>,
+    found: &Findings<'_>,
     paths: &Paths<'_>,
 ) -> fmt::Result {
     match refusal {
@@ -146,7 +146,7 @@ fn write_word<W: fmt::Write>(
 fn write_several<W: fmt::Write>(
     f: &mut fmt::Formatter<W>,
     id: OpId,
-    found: &Found<'_>,
+    found: &Findings<'_>,
     paths: &Paths<'_>,
 ) -> fmt::Result {
     if found.has_namesake {
@@ -159,7 +159,7 @@ fn write_several<W: fmt::Write>(
             writeln!(f, "{word} has several texts, that of {id} among them")?;
         }
     }
-    let register = Register::of(paths);
+    let register = RegisterArgument::of(paths);
     writeln!(
         f,
         "hint: crsreg compare {register} KEY shows what differs; crsreg settle keeps one of them, settle --equal one of each text"
@@ -184,7 +184,7 @@ fn write_namesakes<W: fmt::Write>(
         f,
         " is several keys, that of {id} among them: they differ in letter case, or in the colon behind the authority"
     )?;
-    let register = Register::of(paths);
+    let register = RegisterArgument::of(paths);
     writeln!(
         f,
         "hint: name the entry by its id: crsreg find {register} KEY --status live prints the entries of these keys"
@@ -198,7 +198,7 @@ fn write_no_entry<W: fmt::Write>(
     paths: &Paths<'_>,
 ) -> fmt::Result {
     let register = Shown(paths.register);
-    if let Command::Find = paths.command {
+    if let SpecialCommand::Find = paths.command {
         return writeln!(
             f,
             "{register} has no such entry\nhint: crsreg find prints its entries"
@@ -211,7 +211,7 @@ fn write_no_entry<W: fmt::Write>(
             writeln!(f, "{register} has no entry {word} that is not retired")?;
         }
     }
-    let register = Register::of(paths);
+    let register = RegisterArgument::of(paths);
     writeln!(
         f,
         "hint: crsreg find prints its entries; crsreg log -k {register} KEY says what became of those of a key"
@@ -222,13 +222,13 @@ fn write_no_entry<W: fmt::Write>(
 fn write_bad_id<W: fmt::Write>(
     f: &mut fmt::Formatter<W>,
     word: &str,
-    command: Command,
+    command: SpecialCommand,
 ) -> fmt::Result {
     match command {
-        Command::Settle => f.write_str(
+        SpecialCommand::Settle => f.write_str(
             "a word is not an id of the form UUID:NUMBER\nhint: settle takes only ids: crsreg find REG KEY --status live --ids prints those of a key\n",
         ),
-        Command::SupersedeFrom { keys } => write_bad_line(f, Shown(word), keys),
+        SpecialCommand::SupersedeFrom { keys } => write_bad_line(f, Shown(word), keys),
         _ => f.write_str(
             "a word is not an id of the form UUID:NUMBER\nhint: with -k, AUTHORITY:CODE names the entry of a key\n",
         ),

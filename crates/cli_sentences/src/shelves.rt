@@ -1,5 +1,5 @@
 //! Sentences for shelves that cannot be read or changed.
-use crate::paths::{Command, Paths};
+use crate::paths::{Paths, SpecialCommand};
 use crate::shown::Shown;
 use reg_guard::engine::ShelfProblem;
 use std::fmt;
@@ -28,7 +28,7 @@ pub fn write<W: fmt::Write>(
         ShelfProblem::NotShelf => {
             writeln!(f, "{shelf} is not a shelf, or it is damaged")?;
             f.write_str(match paths.command {
-                Command::Unshelf =>
+                SpecialCommand::Unshelf =>
                     "hint: crsreg shelf makes one; if this is a register file, copy it instead\n",
                 _ => "hint: crsreg shelf makes one; without --shelf a command takes a file\n",
             })
@@ -51,11 +51,11 @@ pub fn write<W: fmt::Write>(
 fn write_not_opened<W: fmt::Write>(f: &mut fmt::Formatter<W>, paths: &Paths<'_>) -> fmt::Result {
     let shelf = Shown(paths.shelf);
     match paths.command {
-        Command::Shelf => writeln!(
+        SpecialCommand::Shelf => writeln!(
             f,
             "{shelf} cannot be made: its folder is not there, or you may not write it"
         ),
-        Command::Status => writeln!(
+        SpecialCommand::Status => writeln!(
             f,
             "{shelf} cannot be opened: it is not there, you may not read it, or another command changes it"
         ),
@@ -70,11 +70,11 @@ fn write_not_opened<W: fmt::Write>(f: &mut fmt::Formatter<W>, paths: &Paths<'_>)
 fn write_failed<W: fmt::Write>(f: &mut fmt::Formatter<W>, paths: &Paths<'_>) -> fmt::Result {
     let shelf = Shown(paths.shelf);
     match paths.command {
-        Command::Shelf => writeln!(
+        SpecialCommand::Shelf => writeln!(
             f,
             "{shelf} could not be written, and may be no shelf now: the disk is full, or it fails\nhint: make it again with crsreg shelf"
         ),
-        Command::Status => writeln!(f, "{shelf} could not be read"),
+        SpecialCommand::Status => writeln!(f, "{shelf} could not be read"),
         _ => writeln!(
             f,
             "{shelf} could not be read or written; it holds the register from before the command or the one after it",

@@ -37,9 +37,9 @@ impl fmt::Display for NewBeside<'_> {
 
 /// The key, the id and the status of an entry as they are printed: a hidden character prints as `?`.
 #[derive(Clone, Copy)]
-pub struct Head<'a>(pub &'a str);
+pub struct EntryHead<'a>(pub &'a str);
 
-impl fmt::Display for Head<'_> {
+impl fmt::Display for EntryHead<'_> {
     fn fmt<W: fmt::Write>(&self, f: &mut fmt::Formatter<W>) -> fmt::Result {
         write_shown(f, self.0)
     }

@@ -3,12 +3,12 @@ use crate::defaults::Variable;
 
 /// An argument of a command.
 #[derive(Clone, Copy)]
-pub struct Argument {
+pub struct CommandArgument {
     /// The name: of a word in help, of an option after `--`.
     pub name: &'static str,
     pub help: &'static str,
     pub role: Role,
-    pub kind: Kind,
+    pub kind: ArgumentKind,
     pub need: Need,
     /// The arguments that cannot be given with this one.
     pub excludes: &'static [&'static str],
@@ -67,7 +67,7 @@ impl Role {
 
 /// How an argument stands on the command line.
 #[derive(Clone, Copy)]
-pub enum Kind {
+pub enum ArgumentKind {
     /// One word.
     Word,
     /// One or more words.
@@ -108,11 +108,11 @@ pub enum Preset {
 }
 
 /// A word that is required.
-pub const WORD: Argument = Argument {
+pub const WORD: CommandArgument = CommandArgument {
     name: "",
     help: "",
     role: Role::Plain,
-    kind: Kind::Word,
+    kind: ArgumentKind::Word,
     need: Need::Always,
     excludes: &[],
     values: &[],
@@ -120,20 +120,20 @@ pub const WORD: Argument = Argument {
 };
 
 /// One or more words, which are required.
-pub const WORDS: Argument = Argument {
-    kind: Kind::Words,
+pub const WORDS: CommandArgument = CommandArgument {
+    kind: ArgumentKind::Words,
     ..WORD
 };
 
 /// An option without a value.
-pub const FLAG: Argument = Argument {
-    kind: Kind::Flag,
+pub const FLAG: CommandArgument = CommandArgument {
+    kind: ArgumentKind::Flag,
     need: Need::Never,
     ..WORD
 };
 
 /// The file of a register.
-pub const REGISTER: Argument = Argument {
+pub const REGISTER: CommandArgument = CommandArgument {
     name: "REG",
     help: "The register file to read",
     role: Role::Register,
@@ -141,33 +141,33 @@ pub const REGISTER: Argument = Argument {
 };
 
 /// An id of an entry.
-pub const ENTRY: Argument = Argument {
+pub const ENTRY: CommandArgument = CommandArgument {
     name: "ENTRY",
     help: "The id of the entry, as UUID:NUMBER, or with -k its key",
     ..WORD
 };
 
 /// Whether keys are accepted instead of ids.
-pub const KEYS: Argument = Argument {
+pub const KEYS: CommandArgument = CommandArgument {
     name: "keys",
     help: "Takes keys, as AUTHORITY:CODE, instead of ids (default: $CRSREG_KEYS)",
-    kind: Kind::ShortFlag('k'),
+    kind: ArgumentKind::ShortFlag('k'),
     default: Preset::Variable(Variable::Keys),
     ..FLAG
 };
 
 /// The names of offices.
-pub const NAMES: Argument = Argument {
+pub const NAMES: CommandArgument = CommandArgument {
     name: "names",
     help: "Office names for tables, sentences, page, graph (default: $CRSREG_NAMES)",
     role: Role::Names,
-    kind: Kind::Option("FILE"),
+    kind: ArgumentKind::Option("FILE"),
     default: Preset::Variable(Variable::Names),
     ..FLAG
 };
 
 /// Whether refusals are explained.
-pub const EXPLAIN: Argument = Argument {
+pub const EXPLAIN: CommandArgument = CommandArgument {
     name: "explain",
     help: "Explains a refusal in words (default: on a terminal, or $CRSREG_EXPLAIN)",
     default: Preset::Variable(Variable::Explain),
@@ -175,7 +175,7 @@ pub const EXPLAIN: Argument = Argument {
 };
 
 /// Whether refusals are not explained.
-pub const NO_EXPLAIN: Argument = Argument {
+pub const NO_EXPLAIN: CommandArgument = CommandArgument {
     name: "no-explain",
     help: "Does not explain a refusal, also not on a terminal",
     excludes: &["explain"],
@@ -183,7 +183,7 @@ pub const NO_EXPLAIN: Argument = Argument {
 };
 
 /// Whether rows are printed as a table.
-pub const TABLE: Argument = Argument {
+pub const TABLE: CommandArgument = CommandArgument {
     name: "table",
     help: "Prints an aligned table instead of CSV (default: $CRSREG_TABLE)",
     default: Preset::Variable(Variable::Table),
@@ -191,37 +191,37 @@ pub const TABLE: Argument = Argument {
 };
 
 /// The office of a command, by its UUID.
-pub const REPLICA: Argument = Argument {
+pub const REPLICA: CommandArgument = CommandArgument {
     name: "as",
     help: "UUID of the office, unique to it (default: $CRSREG_AS)",
-    kind: Kind::Option("UUID"),
+    kind: ArgumentKind::Option("UUID"),
     need: Need::Office,
     default: Preset::Variable(Variable::Office),
     ..WORD
 };
 
 /// The office of a command, by its office file.
-pub const OFFICE_FILE: Argument = Argument {
+pub const OFFICE_FILE: CommandArgument = CommandArgument {
     name: "office",
     help: "The office file, in the place of --as (default: $CRSREG_OFFICE)",
     role: Role::Office,
-    kind: Kind::Option("FILE"),
+    kind: ArgumentKind::Option("FILE"),
     excludes: &["as"],
     default: Preset::Variable(Variable::OfficeFile),
     ..FLAG
 };
 
 /// The note of a command.
-pub const NOTE: Argument = Argument {
+pub const NOTE: CommandArgument = CommandArgument {
     name: "note",
     help: "Who, when and why, in at most 200 bytes (default: $CRSREG_NOTE)",
-    kind: Kind::Text("TEXT"),
+    kind: ArgumentKind::Text("TEXT"),
     default: Preset::Variable(Variable::Note),
     ..FLAG
 };
 
 /// Whether the register is on a shelf, which is only read.
-pub const READ_SHELF: Argument = Argument {
+pub const READ_SHELF: CommandArgument = CommandArgument {
     name: "shelf",
     help: "REG is a shelf",
     role: Role::OnReadShelf,
@@ -229,14 +229,14 @@ pub const READ_SHELF: Argument = Argument {
 };
 
 /// Whether the register is on a shelf, which is changed.
-pub const ON_SHELF: Argument = Argument {
+pub const ON_SHELF: CommandArgument = CommandArgument {
     help: "REG is a shelf, and the new register is kept on it",
     role: Role::OnKeptShelf,
     ..READ_SHELF
 };
 
 /// The output file, as a word.
-pub const OUT: Argument = Argument {
+pub const OUT: CommandArgument = CommandArgument {
     name: "OUT",
     help: "The register file to write",
     role: Role::Output,
@@ -244,41 +244,41 @@ pub const OUT: Argument = Argument {
 };
 
 /// The output of a register that is not on a shelf.
-pub const CHANGED: Argument = Argument {
+pub const CHANGED: CommandArgument = CommandArgument {
     name: "out",
     help: "The register file to write; can be REG",
     role: Role::Output,
-    kind: Kind::Option("OUT"),
+    kind: ArgumentKind::Option("OUT"),
     need: Need::Unless(&["shelf", "dry-run"]),
     excludes: &["shelf"],
     ..WORD
 };
 
 /// The status of entries.
-pub const STATUS: Argument = Argument {
+pub const STATUS: CommandArgument = CommandArgument {
     name: "status",
     help: "Only with this status; live: not retired",
-    kind: Kind::Option("S"),
+    kind: ArgumentKind::Option("S"),
     values: &["valid", "superseded", "retired", "live"],
     ..FLAG
 };
 
 /// The authority of entries.
-pub const AUTHORITY: Argument = Argument {
+pub const AUTHORITY: CommandArgument = CommandArgument {
     name: "authority",
     help: "Only with this authority",
-    kind: Kind::Text("A"),
+    kind: ArgumentKind::Text("A"),
     ..FLAG
 };
 
 /// The options of every command that changes a register as an office.
-pub static OF_OFFICE: [Argument; 5] = [REPLICA, OFFICE_FILE, NOTE, ON_SHELF, CHANGED];
+pub static OF_OFFICE: [CommandArgument; 5] = [REPLICA, OFFICE_FILE, NOTE, ON_SHELF, CHANGED];
 
 /// The options of every command that prints rows.
-pub static OF_ROWS: [Argument; 1] = [TABLE];
+pub static OF_ROWS: [CommandArgument; 1] = [TABLE];
 
 /// The options of every command.
-pub static OF_ALL: [Argument; 3] = [NAMES, EXPLAIN, NO_EXPLAIN];
+pub static OF_ALL: [CommandArgument; 3] = [NAMES, EXPLAIN, NO_EXPLAIN];
 
 /// No options.
-pub static OF_NONE: [Argument; 0] = [];
+pub static OF_NONE: [CommandArgument; 0] = [];

@@ -1,5 +1,5 @@
 //! Makes clap's table of a command from its row.
-use crate::argument::{Argument, Kind, Need, OF_ALL, Preset};
+use crate::argument::{ArgumentKind, CommandArgument, Need, OF_ALL, Preset};
 use crate::command::CommandRow;
 use crate::defaults::Defaults;
 use clap::{Arg, ArgAction, Command};
@@ -23,7 +23,7 @@ pub fn command<'a>(
 fn with_arguments<'a>(
     alloc: Global,
     command: Command<'a>,
-    rows: &[Argument],
+    rows: &[CommandArgument],
     defaults: &Defaults<'a>,
 ) -> Result<Command<'a>, AllocError> {
     let mut command = command;
@@ -36,7 +36,7 @@ fn with_arguments<'a>(
 
 fn argument<'a>(
     alloc: Global,
-    row: &Argument,
+    row: &CommandArgument,
     defaults: &Defaults<'a>,
 ) -> Result<Arg<'a>, AllocError> {
     let arg = of_kind(Arg::new(alloc, row.name).help(row.help), row);
@@ -45,23 +45,26 @@ fn argument<'a>(
     needed(arg, row, defaults)?.conflicts_with_all(row.excludes)
 }
 
-fn of_kind<'a>(arg: Arg<'a>, row: &Argument) -> Arg<'a> {
+fn of_kind<'a>(arg: Arg<'a>, row: &CommandArgument) -> Arg<'a> {
     match row.kind {
-        Kind::Word => arg,
-        Kind::Words => arg.action(ArgAction::Append).num_args(1..),
-        Kind::Flag => arg.long(row.name).action(ArgAction::SetTrue),
-        Kind::ShortFlag(short) => arg.long(row.name).short(short).action(ArgAction::SetTrue),
-        Kind::Option(value) => arg.long(row.name).value_name(value),
-        Kind::Options(value) => arg
+        ArgumentKind::Word => arg,
+        ArgumentKind::Words => arg.action(ArgAction::Append).num_args(1..),
+        ArgumentKind::Flag => arg.long(row.name).action(ArgAction::SetTrue),
+        ArgumentKind::ShortFlag(short) => arg
+            .long(row.name)
+            .short(short)
+            .action(ArgAction::SetTrue),
+        ArgumentKind::Option(value) => arg.long(row.name).value_name(value),
+        ArgumentKind::Options(value) => arg
             .long(row.name)
             .value_name(value)
             .action(ArgAction::Append),
-        Kind::Many(value) => arg
+        ArgumentKind::Many(value) => arg
             .long(row.name)
             .value_name(value)
             .action(ArgAction::Append)
             .num_args(1..),
-        Kind::Text(value) => arg
+        ArgumentKind::Text(value) => arg
             .long(row.name)
             .value_name(value)
             .allow_hyphen_values(true),
@@ -94,7 +97,7 @@ fn hidden<'a>(arg: Arg<'a>, value: Option<&'a str>) -> Arg<'a> {
 
 fn needed<'a>(
     arg: Arg<'a>,
-    row: &Argument,
+    row: &CommandArgument,
     defaults: &Defaults<'a>,
 ) -> Result<Arg<'a>, AllocError> {
     match row.need {

@@ -1,5 +1,7 @@
 //! The commands that enter one text, or change entries.
-use crate::argument::{Argument, FLAG, KEYS, Kind, Need, REGISTER, Role, WORD, WORDS};
+use crate::argument::{
+    ArgumentKind, CommandArgument, FLAG, KEYS, Need, REGISTER, Role, WORD, WORDS,
+};
 use crate::change_help::{ENTER_HELP, RETIRE_HELP, SUPERSEDE_HELP};
 use crate::command::{CommandRow, Group};
 
@@ -18,11 +20,11 @@ pub fn enter() -> &'static CommandRow {
     &ENTER
 }
 
-const TEXT: Argument = Argument {
+const TEXT: CommandArgument = CommandArgument {
     name: "text",
     help: "The file with the definition",
     role: Role::Input,
-    kind: Kind::Option("FILE"),
+    kind: ArgumentKind::Option("FILE"),
     ..WORD
 };
 
@@ -33,14 +35,14 @@ static SUPERSEDE: CommandRow = CommandRow {
     group: Group::Daily,
     arguments: &[
         REGISTER,
-        Argument {
+        CommandArgument {
             name: "OLD",
             help: "The id of the superseded entry, as UUID:NUMBER, or with -k its key",
             need: Need::Unless(&["from"]),
             excludes: &["from"],
             ..WORD
         },
-        Argument {
+        CommandArgument {
             name: "BY",
             help: "The ids or keys of the entries that supersede it; - reads ids",
             role: Role::Entries,
@@ -48,15 +50,15 @@ static SUPERSEDE: CommandRow = CommandRow {
             excludes: &["from"],
             ..WORDS
         },
-        Argument {
+        CommandArgument {
             name: "from",
             help: "A list with a line OLD BY.. for each entry; - is standard input",
             role: Role::InputOrDash,
-            kind: Kind::Option("FILE"),
+            kind: ArgumentKind::Option("FILE"),
             ..FLAG
         },
         KEYS,
-        Argument {
+        CommandArgument {
             name: "keep-going",
             help: "With --from, leaves refused lines out, and goes on",
             ..FLAG
@@ -78,7 +80,7 @@ static RETIRE: CommandRow = CommandRow {
     group: Group::Daily,
     arguments: &[
         REGISTER,
-        Argument {
+        CommandArgument {
             name: "ENTRY",
             help: "The ids of the entries, as UUID:NUMBER, or with -k their keys; - reads ids",
             role: Role::Entries,

@@ -1,5 +1,5 @@
 //! Commands as rows of tables.
-use crate::argument::{Argument, OF_ALL, OF_NONE, OF_OFFICE, OF_ROWS, Role};
+use crate::argument::{CommandArgument, OF_ALL, OF_NONE, OF_OFFICE, OF_ROWS, Role};
 
 /// A command.
 #[derive(Clone, Copy)]
@@ -11,7 +11,7 @@ pub struct CommandRow {
     /// Where the help of the program lists it.
     pub group: Group,
     /// Its own arguments, in the order of its help.
-    pub arguments: &'static [Argument],
+    pub arguments: &'static [CommandArgument],
     /// Whether it changes a register as an office, so that it has the options of an office.
     pub is_office: bool,
     /// Whether it prints rows, so that it has `--table`.
@@ -44,7 +44,7 @@ impl Group {
 
 impl CommandRow {
     /// The options that it shares with commands of an office.
-    pub fn of_office(&self) -> &'static [Argument] {
+    pub fn of_office(&self) -> &'static [CommandArgument] {
         if self.is_office {
             return &OF_OFFICE;
         }
@@ -52,7 +52,7 @@ impl CommandRow {
     }
 
     /// The options that it shares with commands that print rows.
-    pub fn of_rows(&self) -> &'static [Argument] {
+    pub fn of_rows(&self) -> &'static [CommandArgument] {
         if self.prints_rows {
             return &OF_ROWS;
         }
@@ -109,7 +109,7 @@ impl CommandRow {
 }
 
 // The name of the first of these arguments with this role.
-fn named(arguments: &[Argument], role: Role) -> Option<&'static str> {
+fn named(arguments: &[CommandArgument], role: Role) -> Option<&'static str> {
     for argument in arguments {
         if argument.role == role {
             return Some(argument.name);
@@ -118,7 +118,7 @@ fn named(arguments: &[Argument], role: Role) -> Option<&'static str> {
     None
 }
 
-fn role_of(arguments: &[Argument], name: &str) -> Option<Role> {
+fn role_of(arguments: &[CommandArgument], name: &str) -> Option<Role> {
     for argument in arguments {
         if argument.name == name {
             return Some(argument.role);

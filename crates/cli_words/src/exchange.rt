@@ -1,6 +1,7 @@
 //! The commands that make and exchange registers, and keep them on shelves.
 use crate::argument::{
-    Argument, FLAG, Kind, Need, OFFICE_FILE, ON_SHELF, OUT, READ_SHELF, REGISTER, Role, WORD, WORDS,
+    ArgumentKind, CommandArgument, FLAG, Need, OFFICE_FILE, ON_SHELF, OUT, READ_SHELF, REGISTER,
+    Role, WORD, WORDS,
 };
 use crate::command::{CommandRow, Group};
 use crate::exchange_help::{
@@ -28,7 +29,7 @@ static OFFICE: CommandRow = CommandRow {
     about: "Makes an office file, and prints the UUID of the new office",
     help: OFFICE_HELP,
     group: Group::Daily,
-    arguments: &[Argument {
+    arguments: &[CommandArgument {
         name: "NEW",
         help: "The office file to make; nothing may have this name",
         role: Role::Output,
@@ -49,37 +50,37 @@ static TAKE: CommandRow = CommandRow {
     help: TAKE_HELP,
     group: Group::Exchange,
     arguments: &[
-        Argument {
+        CommandArgument {
             help: "The register file to read and to change",
             role: Role::OwnRegister,
             ..REGISTER
         },
-        Argument {
+        CommandArgument {
             name: "FILE",
             help: "The files of registers and pieces to join",
             role: Role::Input,
             need: Need::Office,
             ..WORDS
         },
-        Argument {
+        CommandArgument {
             help: "The office file of REG (default: $CRSREG_OFFICE)",
             excludes: &[],
             ..OFFICE_FILE
         },
-        Argument {
+        CommandArgument {
             name: "dry-run",
             help: "Prints what would change, and writes nothing",
             ..FLAG
         },
-        Argument {
+        CommandArgument {
             name: "keep-going",
             help: "Leaves out files that are refused, and joins the others",
             ..FLAG
         },
-        Argument {
+        CommandArgument {
             name: "from",
             help: "Joins only the operations of this office; can be repeated",
-            kind: Kind::Options("UUID"),
+            kind: ArgumentKind::Options("UUID"),
             ..FLAG
         },
         ON_SHELF,
@@ -99,12 +100,12 @@ static MERGE: CommandRow = CommandRow {
     help: MERGE_HELP,
     group: Group::Exchange,
     arguments: &[
-        Argument {
+        CommandArgument {
             help: "OUT is a shelf, whose register is merged too",
             ..ON_SHELF
         },
         OUT,
-        Argument {
+        CommandArgument {
             name: "FILE",
             help: "The files of registers and pieces to merge",
             role: Role::Input,
@@ -128,7 +129,7 @@ static SEEN: CommandRow = CommandRow {
     arguments: &[
         REGISTER,
         READ_SHELF,
-        Argument {
+        CommandArgument {
             help: "The summary file to write",
             ..OUT
         },
@@ -150,13 +151,13 @@ static PIECE: CommandRow = CommandRow {
     arguments: &[
         REGISTER,
         READ_SHELF,
-        Argument {
+        CommandArgument {
             name: "SEEN",
             help: "The summary file of the other office",
             role: Role::Input,
             ..WORD
         },
-        Argument {
+        CommandArgument {
             help: "The piece file to write",
             ..OUT
         },
@@ -191,13 +192,13 @@ static SHELF: CommandRow = CommandRow {
     help: SHELF_HELP,
     group: Group::Rare,
     arguments: &[
-        Argument {
+        CommandArgument {
             name: "NEW",
             help: "The shelf to create; an existing file is overwritten",
             role: Role::Shelf,
             ..WORD
         },
-        Argument {
+        CommandArgument {
             name: "SIZE",
             help: "The limit for the register's file in bytes, from 14 to 67108864",
             ..WORD
@@ -218,7 +219,7 @@ static UNSHELF: CommandRow = CommandRow {
     help: UNSHELF_HELP,
     group: Group::Rare,
     arguments: &[
-        Argument {
+        CommandArgument {
             name: "SHELF",
             help: "The shelf to read",
             role: Role::Shelf,

@@ -1,6 +1,7 @@
 //! The commands that search, count and compare registers.
 use crate::argument::{
-    AUTHORITY, Argument, FLAG, Kind, Need, READ_SHELF, REGISTER, Role, STATUS, WORD, WORDS,
+    AUTHORITY, ArgumentKind, CommandArgument, FLAG, Need, READ_SHELF, REGISTER, Role, STATUS, WORD,
+    WORDS,
 };
 use crate::command::{CommandRow, Group};
 use crate::look_help::{DIFF_HELP, FIND_HELP, LINT_HELP, OFFICES_HELP, PAGE_HELP, STATUS_OF_HELP};
@@ -12,47 +13,47 @@ static FIND: CommandRow = CommandRow {
     group: Group::Daily,
     arguments: &[
         REGISTER,
-        Argument {
+        CommandArgument {
             name: "WORD",
             help: "A key, as AUTHORITY:CODE, or else a part of the name",
             need: Need::Never,
             ..WORD
         },
-        Argument {
+        CommandArgument {
             name: "key",
             help: "Only with this authority and code",
-            kind: Kind::Text("AUTH:CODE"),
+            kind: ArgumentKind::Text("AUTH:CODE"),
             ..FLAG
         },
         AUTHORITY,
-        Argument {
+        CommandArgument {
             name: "code",
             help: "Only with this code",
-            kind: Kind::Text("C"),
+            kind: ArgumentKind::Text("C"),
             ..FLAG
         },
-        Argument {
+        CommandArgument {
             name: "name",
             help: "Only with this part in the name",
-            kind: Kind::Text("PART"),
+            kind: ArgumentKind::Text("PART"),
             ..FLAG
         },
-        Argument {
+        CommandArgument {
             name: "area",
             help: "Only with this part in the area of use",
-            kind: Kind::Text("PART"),
+            kind: ArgumentKind::Text("PART"),
             ..FLAG
         },
-        Argument {
+        CommandArgument {
             name: "at",
             help: "Only entries with a bounding box around this point",
-            kind: Kind::Text("LAT,LON"),
+            kind: ArgumentKind::Text("LAT,LON"),
             ..FLAG
         },
-        Argument {
+        CommandArgument {
             name: "kind",
             help: "Only of this kind",
-            kind: Kind::Option("KIND"),
+            kind: ArgumentKind::Option("KIND"),
             values: &[
                 "geographic",
                 "geodetic",
@@ -63,7 +64,7 @@ static FIND: CommandRow = CommandRow {
             ..FLAG
         },
         STATUS,
-        Argument {
+        CommandArgument {
             name: "ids",
             help: "Prints only the ids, one a line",
             ..FLAG
@@ -85,18 +86,18 @@ static STATUS_OF: CommandRow = CommandRow {
     help: STATUS_OF_HELP,
     group: Group::Daily,
     arguments: &[
-        Argument {
+        CommandArgument {
             name: "FILE",
             help: "The files of registers",
             role: Role::Input,
             ..WORDS
         },
-        Argument {
+        CommandArgument {
             name: "settled",
             help: "Fails if a register is not in order",
             ..FLAG
         },
-        Argument {
+        CommandArgument {
             help: "Each FILE is a shelf",
             ..READ_SHELF
         },
@@ -116,37 +117,37 @@ static LINT: CommandRow = CommandRow {
     help: LINT_HELP,
     group: Group::Daily,
     arguments: &[
-        Argument {
+        CommandArgument {
             need: Need::Unless(&["texts"]),
             excludes: &["texts"],
             ..REGISTER
         },
-        Argument {
+        CommandArgument {
             name: "texts",
             help: "The files of texts to look at, in the place of a register",
             role: Role::InputOrDash,
-            kind: Kind::Many("FILE"),
+            kind: ArgumentKind::Many("FILE"),
             ..FLAG
         },
-        Argument {
+        CommandArgument {
             name: "rule",
             help: "Only by these rules, with commas between",
-            kind: Kind::Option("RULES"),
+            kind: ArgumentKind::Option("RULES"),
             ..FLAG
         },
-        Argument {
+        CommandArgument {
             name: "known",
             help: "Leaves out the rows of this file, which were looked at before",
             role: Role::Input,
-            kind: Kind::Option("ROWS"),
+            kind: ArgumentKind::Option("ROWS"),
             ..FLAG
         },
-        Argument {
+        CommandArgument {
             name: "exit-code",
             help: "Exits with status 1 if there are rows",
             ..FLAG
         },
-        Argument {
+        CommandArgument {
             excludes: &["texts"],
             ..READ_SHELF
         },
@@ -182,13 +183,13 @@ static PAGE: CommandRow = CommandRow {
     group: Group::HandOver,
     arguments: &[
         REGISTER,
-        Argument {
+        CommandArgument {
             name: "title",
             help: "The title of the page",
-            kind: Kind::Text("T"),
+            kind: ArgumentKind::Text("T"),
             ..FLAG
         },
-        Argument {
+        CommandArgument {
             name: "lint",
             help: "Shows what looks wrong in an entry below its text",
             ..FLAG
@@ -210,24 +211,24 @@ static DIFF: CommandRow = CommandRow {
     help: DIFF_HELP,
     group: Group::Exchange,
     arguments: &[
-        Argument {
+        CommandArgument {
             name: "OLD",
             help: "The file of a register",
             role: Role::Register,
             ..WORD
         },
-        Argument {
+        CommandArgument {
             name: "NEW",
             help: "The files of registers and pieces to merge",
             role: Role::Input,
             ..WORDS
         },
-        Argument {
+        CommandArgument {
             name: "exit-code",
             help: "Exits with status 1 if they differ",
             ..FLAG
         },
-        Argument {
+        CommandArgument {
             help: "OLD is a shelf, whose register is merged too",
             ..READ_SHELF
         },

@@ -1,5 +1,5 @@
 //! The commands `import` and `settle`.
-use crate::argument::{Argument, FLAG, Kind, Need, Preset, REGISTER, Role, WORDS};
+use crate::argument::{ArgumentKind, CommandArgument, FLAG, Need, Preset, REGISTER, Role, WORDS};
 use crate::command::{CommandRow, Group};
 use crate::many_help::{IMPORT_HELP, SETTLE_HELP};
 
@@ -10,42 +10,42 @@ static IMPORT: CommandRow = CommandRow {
     group: Group::Daily,
     arguments: &[
         REGISTER,
-        Argument {
+        CommandArgument {
             name: "FILE",
             help: "The files with texts; - is standard input",
             role: Role::InputOrDash,
             ..WORDS
         },
-        Argument {
+        CommandArgument {
             name: "differs",
             help: "What to do if an entry with this key has another text",
-            kind: Kind::Option("MODE"),
+            kind: ArgumentKind::Option("MODE"),
             values: &["refuse", "beside", "revise"],
             default: Preset::Word("refuse"),
             ..FLAG
         },
-        Argument {
+        CommandArgument {
             name: "keep-going",
             help: "Lists refused texts, and goes on",
             ..FLAG
         },
-        Argument {
+        CommandArgument {
             name: "dry-run",
             help: "Prints what would be done, and writes nothing",
             ..FLAG
         },
-        Argument {
+        CommandArgument {
             name: "changes",
             help: "Leaves out texts that an entry already has",
             ..FLAG
         },
-        Argument {
+        CommandArgument {
             name: "gone",
             help: "Lists the entries of AUTHORITY whose keys no text has",
-            kind: Kind::Text("AUTHORITY"),
+            kind: ArgumentKind::Text("AUTHORITY"),
             ..FLAG
         },
-        Argument {
+        CommandArgument {
             name: "lint",
             help: "Where sentences are on, prints what looks wrong in what is entered",
             ..FLAG
@@ -67,7 +67,7 @@ static SETTLE: CommandRow = CommandRow {
     group: Group::Daily,
     arguments: &[
         REGISTER,
-        Argument {
+        CommandArgument {
             name: "KEEP",
             help: "The ids of the entries to keep, as UUID:NUMBER; - reads ids",
             role: Role::Entries,
@@ -75,12 +75,12 @@ static SETTLE: CommandRow = CommandRow {
             excludes: &["equal"],
             ..WORDS
         },
-        Argument {
+        CommandArgument {
             name: "equal",
             help: "Of entries with one key and text, keeps the least",
             ..FLAG
         },
-        Argument {
+        CommandArgument {
             name: "quiet",
             help: "Prints no ids",
             ..FLAG

@@ -1,7 +1,7 @@
 //! The commands that show a register, or an entry of it.
 use crate::argument::{
-    AUTHORITY, Argument, ENTRY, FLAG, KEYS, Kind, Need, READ_SHELF, REGISTER, Role, STATUS, WORD,
-    WORDS,
+    AUTHORITY, ArgumentKind, CommandArgument, ENTRY, FLAG, KEYS, Need, READ_SHELF, REGISTER, Role,
+    STATUS, WORD, WORDS,
 };
 use crate::command::{CommandRow, Group};
 use crate::read_help::{
@@ -34,7 +34,7 @@ static WKT: CommandRow = CommandRow {
         KEYS,
         READ_SHELF,
         ENTRY,
-        Argument {
+        CommandArgument {
             name: "pretty",
             help: "Indents the text, with a line for each node",
             ..FLAG
@@ -71,34 +71,34 @@ static COMPARE: CommandRow = CommandRow {
     group: Group::Daily,
     arguments: &[
         REGISTER,
-        Argument {
+        CommandArgument {
             name: "ENTRY",
             help: "The id of an entry, or with -k its key; alone, a key with or without -k",
             need: Need::Unless(&["with"]),
             excludes: &["with"],
             ..WORD
         },
-        Argument {
+        CommandArgument {
             name: "OTHER",
             help: "The id of another entry, or with -k its key",
             need: Need::Never,
             excludes: &["with"],
             ..WORD
         },
-        Argument {
+        CommandArgument {
             name: "with",
             help: "Compares each text of FILE with the entries of its key; - is standard input",
             role: Role::InputOrDash,
-            kind: Kind::Option("FILE"),
+            kind: ArgumentKind::Option("FILE"),
             ..FLAG
         },
-        Argument {
+        CommandArgument {
             name: "keep-going",
             help: "With --with: passes over texts that cannot be read, and names the first",
             ..FLAG
         },
         KEYS,
-        Argument {
+        CommandArgument {
             name: "exit-code",
             help: "Exits with status 1 if they differ",
             ..FLAG
@@ -121,39 +121,39 @@ static EXPORT: CommandRow = CommandRow {
     group: Group::HandOver,
     arguments: &[
         REGISTER,
-        Argument {
+        CommandArgument {
             name: "into",
             help: "Writes a file for each key into DIR, a new or empty folder",
             role: Role::Output,
-            kind: Kind::Option("DIR"),
+            kind: ArgumentKind::Option("DIR"),
             excludes: &["geojson", "proj-sql", "csv"],
             ..FLAG
         },
-        Argument {
+        CommandArgument {
             name: "geojson",
             help: "Prints the bounding boxes as GeoJSON",
             ..FLAG
         },
-        Argument {
+        CommandArgument {
             name: "proj-sql",
             help: "Prints SQL for an auxiliary database of PROJ",
             excludes: &["geojson"],
             ..FLAG
         },
-        Argument {
+        CommandArgument {
             name: "csv",
             help: "Prints a row for each key, with kind, area and status",
             excludes: &["geojson", "proj-sql"],
             ..FLAG
         },
-        Argument {
+        CommandArgument {
             name: "all",
             help: "With --proj-sql: entries of EPSG, too",
             ..FLAG
         },
         STATUS,
         AUTHORITY,
-        Argument {
+        CommandArgument {
             name: "keep-going",
             help: "Leaves out keys with two texts, and names the first at the end",
             ..FLAG
@@ -176,7 +176,7 @@ static GRAPH: CommandRow = CommandRow {
     group: Group::HandOver,
     arguments: &[
         REGISTER,
-        Argument {
+        CommandArgument {
             name: "all",
             help: "Draws every entry",
             ..FLAG
@@ -214,7 +214,7 @@ static LOG: CommandRow = CommandRow {
     group: Group::Daily,
     arguments: &[
         REGISTER,
-        Argument {
+        CommandArgument {
             name: "ENTRY",
             help: "The ids of the entries, or with -k their keys (default: all)",
             need: Need::Never,
@@ -240,7 +240,7 @@ static REPORT: CommandRow = CommandRow {
     arguments: &[
         REGISTER,
         READ_SHELF,
-        Argument {
+        CommandArgument {
             name: "KIND",
             help: "What to list",
             values: &[

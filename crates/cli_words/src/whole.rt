@@ -1,5 +1,5 @@
 //! `check`, `completions`, and all commands together.
-use crate::argument::{Argument, Need, Role, WORD};
+use crate::argument::{CommandArgument, Need, Role, WORD};
 use crate::building::command;
 use crate::command::{CommandRow, Group};
 use crate::completions::SHELLS;
@@ -17,7 +17,7 @@ static CHECK: CommandRow = CommandRow {
     about: "Checks a text and prints its canonical form",
     help: CHECK_HELP,
     group: Group::Daily,
-    arguments: &[Argument {
+    arguments: &[CommandArgument {
         name: "TEXT",
         help: "The file with the text (default: standard input)",
         role: Role::Input,
@@ -38,7 +38,7 @@ static COMPLETIONS: CommandRow = CommandRow {
     about: "Prints a script that completes command lines in a shell",
     help: COMPLETIONS_HELP,
     group: Group::Rare,
-    arguments: &[Argument {
+    arguments: &[CommandArgument {
         name: "SHELL",
         help: "The shell that runs the script",
         values: &SHELLS,

@@ -8,26 +8,26 @@ use Rattle.crs_part.specs.declared.systems.Axis.{Axis}
 use Rattle.crs_part.specs.declared.crs.Single.{Single}
 use Rattle.crs_part.specs.declared.crs.Single.TheVariants.{Geodetic, Projected, Vertical}
 use Rattle.crs_part.specs.Slots.{items_of}
-use Rattle.crs_axes.specs.declared.unit_name.Mark.{Mark}
-use Rattle.crs_axes.specs.declared.unit_name.Mark.TheVariants.{SurveyFoot, Foot, Metre}
+use Rattle.crs_axes.specs.declared.unit_name.UnitMark.{UnitMark}
+use Rattle.crs_axes.specs.declared.unit_name.UnitMark.TheVariants.{SurveyFoot, Foot, Metre}
 use Rattle.crs_exact.specs.Names.{has_part}
 use Rattle.crs_exact.specs.Sizes.{is_below, is_beyond}
 use Rattle.crs_exact.specs.Parts.{unit_of}
 use Rattle.crs_exact.specs.Said.{unit_said}
 
 -- more than one part in 10^9 from 0.304800609601219, 0.3048 or 1
-abbrev pub is_no : Mark → Decimal → Bool
+abbrev pub is_no : UnitMark → Decimal → Bool
 is_no SurveyFoot f = is_below f 304800609296418390398781 24 || is_beyond f 304800609906019609601219 24
 is_no Foot f = is_below f 3047999996952 13 || is_beyond f 3048000003048 13
 is_no Metre f = is_below f 999999999 9 || is_beyond f 1000000001 9
 
 -- there is a unit, and it is not the mark's
-abbrev pub is_no_unit : Mark → Option Unit → Bool
+abbrev pub is_no_unit : UnitMark → Option Unit → Bool
 is_no_unit mark None = false
 is_no_unit mark (Some unit) = is_no mark (unit_of unit).factor
 
 -- the unit of no axis is the mark's; an axis has its own unit, or else the common one
-abbrev pub none_is : Mark → List Axis → Option Unit → Bool
+abbrev pub none_is : UnitMark → List Axis → Option Unit → Bool
 none_is mark axes common = list_all (λ axis. is_no_unit mark (option_or axis.unit common)) axes
 
 abbrev pub is_misnamed : List ℕ → List Axis → Option Unit → Bool

@@ -12,7 +12,7 @@ use std::alloc::{AllocError, Global};
 
 /// A unit that names of systems have in parentheses.
 #[derive(Clone, Copy)]
-pub(crate) enum Mark {
+pub(crate) enum UnitMark {
     SurveyFoot,
     Foot,
     Metre,
@@ -32,30 +32,30 @@ pub fn breaks_unit_name(crs: &Single) -> bool
 fn is_misnamed(name: &[u8], axes: &NonEmpty<Axis>, common: &Option<Unit>) -> bool
     ensures { result ≡ is_misnamed name.now (items_of axes.now) common.now }
 {
-    (has_part(name, b"(ftUS)") && none_is(Mark::SurveyFoot, axes, common))
-        || (has_part(name, b"(ft)") && none_is(Mark::Foot, axes, common))
-        || (has_part(name, b"(m)") && none_is(Mark::Metre, axes, common))
+    (has_part(name, b"(ftUS)") && none_is(UnitMark::SurveyFoot, axes, common))
+        || (has_part(name, b"(ft)") && none_is(UnitMark::Foot, axes, common))
+        || (has_part(name, b"(m)") && none_is(UnitMark::Metre, axes, common))
 }
 
-fn none_is(mark: Mark, axes: &NonEmpty<Axis>, common: &Option<Unit>) -> bool
+fn none_is(mark: UnitMark, axes: &NonEmpty<Axis>, common: &Option<Unit>) -> bool
     ensures { result ≡ none_is mark (items_of axes.now) common.now }
 {
     has_not(mark, common, &axes.first) && no_other_is(mark, axes.others.as_slice(), common)
 }
 
-fn no_other_is(mark: Mark, axes: &[Axis], common: &Option<Unit>) -> bool
+fn no_other_is(mark: UnitMark, axes: &[Axis], common: &Option<Unit>) -> bool
     ensures { result ≡ none_is mark axes.now common.now }
 {
     axes.iter().all(|axis| has_not(mark, common, axis))
 }
 
-fn has_not(mark: Mark, common: &Option<Unit>, axis: &Axis) -> bool
+fn has_not(mark: UnitMark, common: &Option<Unit>, axis: &Axis) -> bool
     ensures { result ≡ is_no_unit mark (option_or axis.now.unit common.now) }
 {
     is_no_unit(mark, either(&axis.unit, common))
 }
 
-fn is_no_unit(mark: Mark, unit: &Option<Unit>) -> bool
+fn is_no_unit(mark: UnitMark, unit: &Option<Unit>) -> bool
     ensures { result ≡ is_no_unit mark unit.now }
 {
     match unit {
@@ -64,17 +64,17 @@ fn is_no_unit(mark: Mark, unit: &Option<Unit>) -> bool
     }
 }
 
-fn is_no(mark: Mark, factor: Decimal) -> bool
+fn is_no(mark: UnitMark, factor: Decimal) -> bool
     ensures { result ≡ is_no mark factor }
 {
     match mark {
-        Mark::SurveyFoot => {
+        UnitMark::SurveyFoot => {
             is_below(factor, 304_800_609_296_418_390_398_781, 24)
                 || is_beyond(factor, 304_800_609_906_019_609_601_219, 24)
         }
-        Mark::Foot => is_below(factor, 3_047_999_996_952, 13)
+        UnitMark::Foot => is_below(factor, 3_047_999_996_952, 13)
             || is_beyond(factor, 3_048_000_003_048, 13),
-        Mark::Metre => is_below(factor, 999_999_999, 9) || is_beyond(factor, 1_000_000_001, 9),
+        UnitMark::Metre => is_below(factor, 999_999_999, 9) || is_beyond(factor, 1_000_000_001, 9),
     }
 }
 

@@ -3,7 +3,7 @@ use Rattle.std.specs.Prelude.{◌≡◌, ℕ, List, Option, Some, None, if◌the
 use Rattle.std.specs.BTreeMap.{BTreeMap, get}
 use Rattle.std.specs.declared.cmp.Ordering.{Ordering}
 use Rattle.crs_export.specs.declared.held.RowPlace.{RowPlace}
-use Rattle.crs_export.specs.declared.held.Held.{Held}
+use Rattle.crs_export.specs.declared.held.HeldText.{HeldText}
 use Rattle.crs_export.specs.Places.{PlaceBytes, place_cmp, is_same_place}
 
 abbrev pub place_bytes : RowPlace → PlaceBytes
@@ -12,7 +12,7 @@ place_bytes p = record { authority = p.authority.now; number = p.number; code = 
 abbrev pub by_place : RowPlace → RowPlace → Ordering
 by_place a b = place_cmp (place_bytes a) (place_bytes b)
 
-abbrev pub text_in : Option Held → Option (List ℕ)
+abbrev pub text_in : Option HeldText → Option (List ℕ)
 text_in None = None
 text_in (Some h) = Some h.text.now
 
@@ -21,7 +21,7 @@ abbrev pub At : Type 0
 At = PlaceBytes → Option (List ℕ)
 
 -- the map has these texts
-abbrev pub Holds : BTreeMap RowPlace Held → At → Type 0
+abbrev pub Holds : BTreeMap RowPlace HeldText → At → Type 0
 Holds m at = (q : RowPlace) → text_in (get by_place m q) ≡ at (place_bytes q)
 
 -- the place has this text, and every other place its old one

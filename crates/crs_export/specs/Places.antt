@@ -5,7 +5,7 @@ use Rattle.std.specs.Option.{option_cmp}
 use Rattle.std.specs.Ordering.{is_eq, nat_cmp, int_cmp, ordering_then}
 use Rattle.std.specs.declared.cmp.Ordering.{Ordering}
 use Rattle.crs_number.specs.declared.decimals.Decimal.{Decimal}
-use Rattle.crs_export.specs.declared.filed.Keyed.{Keyed}
+use Rattle.crs_export.specs.declared.filed.EntryText.{EntryText}
 use Rattle.crs_export.specs.Boxes.{value_of}
 
 -- the authority, and the number that SQLite reads in the code, or else the code
@@ -18,7 +18,7 @@ abbrev pub unless_number : Option Decimal → List ℕ → List ℕ
 unless_number None code = code
 unless_number (Some d) code = []
 
-abbrev pub place_of : Keyed → PlaceBytes
+abbrev pub place_of : EntryText → PlaceBytes
 place_of k = record { authority = k.authority.now; number = k.number; code = unless_number k.number k.code.now }
 
 abbrev pub number_cmp : Option Decimal → Option Decimal → Ordering

@@ -3,7 +3,7 @@ use Rattle.std.specs.Prelude.{ℕ, ◌++◌, Bool, not, ◌||◌, ◌&&◌, nat_
 use Rattle.std.specs.Cmp.Lexicographic.{pointwise}
 use Rattle.std.specs.List.{list_any}
 use Rattle.crs_export.specs.declared.filed.Filed.{Filed}
-use Rattle.crs_export.specs.declared.filed.Keyed.{Keyed}
+use Rattle.crs_export.specs.declared.filed.EntryText.{EntryText}
 use Rattle.crs_export.specs.declared.verdict.Verdict.{Verdict}
 use Rattle.crs_export.specs.declared.verdict.Verdict.TheVariants.{Insert, Again, LeftOut}
 use Rattle.crs_export.specs.declared.table.Table.{Table}
@@ -22,7 +22,7 @@ abbrev pub has_rows : Filed → Bool
 has_rows f = is_some f.table || is_some_text f.rows.items
 
 -- an authority that is not that of rows of entries, and a code
-abbrev pub has_key : Keyed → Bool
+abbrev pub has_key : EntryText → Bool
 has_key k = is_some_text k.authority.now && (not (is_same_text OWNER.now k.authority.now) && is_some_text k.code.now)
 
 -- there is a U+0000 in it, where SQLite ends a text

@@ -5,7 +5,7 @@ use crs_number::Decimal;
 
 /// An entry's key and text.
 #[derive(Clone, Copy)]
-pub struct Keyed<'a> {
+pub struct EntryText<'a> {
     pub authority: &'a [u8],
     pub code: &'a [u8],
     /// The canonical text.
@@ -20,7 +20,7 @@ pub struct Filed<'a> {
     /// The printed id.
     pub entry: Vec<u8>,
     pub name: &'a [u8],
-    pub keyed: Keyed<'a>,
+    pub keyed: EntryText<'a>,
     /// The table that takes its text, if there is one for the kind of the reference system.
     pub table: Option<Table>,
     /// The statements of a reference system whose table takes no text; none if PROJ's tables cannot hold it.

@@ -12,7 +12,7 @@ use std::alloc::{AllocError, Global};
 
 // The numerals of a box.
 #[derive(Drop)]
-struct Edges {
+struct GeometryEdges {
     west: Vec<u8>,
     south: Vec<u8>,
     east: Vec<u8>,
@@ -27,7 +27,7 @@ fn numeral(alloc: Global, decimal: &Decimal) -> Result<Vec<u8>, AllocError>
     Ok(text)
 }
 
-fn edges_of(alloc: Global, found: &BoundingBox) -> Result<Edges, AllocError>
+fn edges_of(alloc: Global, found: &BoundingBox) -> Result<GeometryEdges, AllocError>
     ensures west { IfOk result (λ made. made.west.items ≡ numeral found.now.west) }
     ensures south { IfOk result (λ made. made.south.items ≡ numeral found.now.south) }
     ensures east { IfOk result (λ made. made.east.items ≡ numeral found.now.east) }
@@ -37,7 +37,7 @@ fn edges_of(alloc: Global, found: &BoundingBox) -> Result<Edges, AllocError>
     let south = numeral(alloc, &found.south)?;
     let east = numeral(alloc, &found.east)?;
     let north = numeral(alloc, &found.north)?;
-    Ok(Edges {
+    Ok(GeometryEdges {
         west,
         south,
         east,
@@ -84,7 +84,7 @@ fn push_polygon(
 }
 
 // Appends the part from the west end of the box to 180, if it has a width.
-fn push_west(text: &mut Vec<u8>, edges: &Edges, wide: bool) -> Result<(), AllocError>
+fn push_west(text: &mut Vec<u8>, edges: &GeometryEdges, wide: bool) -> Result<(), AllocError>
     ensures { OnOk result (text.new.items ≡ text.old.items ++ (if wide then polygon edges.now.west.items edges.now.south.items markup.EAST_END.now edges.now.north.items else [])) }
 {
     if !wide {
@@ -94,7 +94,7 @@ fn push_west(text: &mut Vec<u8>, edges: &Edges, wide: bool) -> Result<(), AllocE
 }
 
 // Appends the part from -180 to the east end of the box, if it has a width.
-fn push_east(text: &mut Vec<u8>, edges: &Edges, wide: bool) -> Result<(), AllocError>
+fn push_east(text: &mut Vec<u8>, edges: &GeometryEdges, wide: bool) -> Result<(), AllocError>
     ensures { OnOk result (text.new.items ≡ text.old.items ++ (if wide then polygon markup.WEST_END.now edges.now.south.items edges.now.east.items edges.now.north.items else [])) }
 {
     if !wide {
@@ -112,7 +112,12 @@ fn push_between(text: &mut Vec<u8>, west: bool, east: bool) -> Result<(), AllocE
     Ok(())
 }
 
-fn push_cut(text: &mut Vec<u8>, edges: &Edges, west: bool, east: bool) -> Result<(), AllocError>
+fn push_cut(
+    text: &mut Vec<u8>,
+    edges: &GeometryEdges,
+    west: bool,
+    east: bool,
+) -> Result<(), AllocError>
     ensures { OnOk result (text.new.items ≡ text.old.items ++ parts edges.now.west.items edges.now.south.items edges.now.east.items edges.now.north.items west east) }
 {
     text.extend_from_slice(POLYGONS)?;
@@ -123,7 +128,7 @@ fn push_cut(text: &mut Vec<u8>, edges: &Edges, west: bool, east: bool) -> Result
     Ok(())
 }
 
-fn push_whole(text: &mut Vec<u8>, edges: &Edges) -> Result<(), AllocError>
+fn push_whole(text: &mut Vec<u8>, edges: &GeometryEdges) -> Result<(), AllocError>
     ensures { OnOk result (text.new.items ≡ text.old.items ++ (markup.POLYGON.now ++ polygon edges.now.west.items edges.now.south.items edges.now.east.items edges.now.north.items)) }
 {
     text.extend_from_slice(POLYGON)?;

@@ -4,7 +4,7 @@ ghost use Rattle.std.specs.Prelude.{◌≡◌, OnOk};
 ghost use Rattle.crs_export.specs.Places.{unless_number, place_of};
 ghost use Rattle.crs_export.specs.Held.{place_bytes, text_in, At, Holds, with_text};
 
-use crate::filed::Keyed;
+use crate::filed::EntryText;
 use crs_number::Decimal;
 use std::alloc::AllocError;
 use std::collections::BTreeMap;
@@ -19,7 +19,7 @@ pub struct RowPlace<'a> {
 
 /// The text of an entry that is there already.
 #[derive(Clone, Copy)]
-pub struct Held<'a> {
+pub struct HeldText<'a> {
     pub text: &'a [u8],
 }
 
@@ -33,7 +33,7 @@ fn unless_number<'a>(number: Option<Decimal>, code: &'a [u8]) -> &'a [u8]
 }
 
 /// The place of an entry with this key.
-pub fn place_of<'a>(keyed: &Keyed<'a>) -> RowPlace<'a>
+pub fn place_of<'a>(keyed: &EntryText<'a>) -> RowPlace<'a>
     ensures { place_bytes result ≡ place_of keyed.now }
 {
     RowPlace {
@@ -45,9 +45,9 @@ pub fn place_of<'a>(keyed: &Keyed<'a>) -> RowPlace<'a>
 
 /// What is held in a place.
 pub fn held_at<'a>(
-    held: &BTreeMap<RowPlace<'a>, Held<'a>>,
+    held: &BTreeMap<RowPlace<'a>, HeldText<'a>>,
     place: &RowPlace<'a>,
-) -> Option<Held<'a>>
+) -> Option<HeldText<'a>>
     ensures { (at : At) → Holds held.now at → text_in result ≡ at (place_bytes place.now) }
 {
     match held.get(place) {
@@ -58,12 +58,12 @@ pub fn held_at<'a>(
 
 /// Holds a text in a place.
 pub fn hold<'a>(
-    held: &mut BTreeMap<RowPlace<'a>, Held<'a>>,
+    held: &mut BTreeMap<RowPlace<'a>, HeldText<'a>>,
     place: RowPlace<'a>,
     text: &'a [u8],
 ) -> Result<(), AllocError>
     ensures { (at : At) → Holds held.old at → OnOk result (Holds held.new (with_text (place_bytes place.entry) text.now at)) }
 {
-    held.insert(place, Held { text })?;
+    held.insert(place, HeldText { text })?;
     Ok(())
 }

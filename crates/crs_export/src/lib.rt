@@ -29,7 +29,7 @@ pub use collection::collection_text;
 pub use dot::{push_caption, push_edge, push_node, push_rivals};
 pub use dot_quotes::push_dot;
 pub use feature::push_features;
-pub use filed::{Filed, Keyed};
+pub use filed::{EntryText, Filed};
 pub use json_quotes::push_json;
 pub use rows::rows_of;
 pub use sql::sql_text;

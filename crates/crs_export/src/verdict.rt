@@ -6,8 +6,8 @@ ghost use Rattle.crs_export.specs.Held.{Holds};
 ghost use Rattle.crs_export.specs.declared.markup.TheConstants as markup;
 ghost use Rattle.crs_export.specs.Sql.{is_same_text, has_rows, has_key, has_null, fits, text_at, by_text, judged};
 
-use crate::filed::{Filed, Keyed};
-use crate::held::{Held, RowPlace, held_at, hold, place_of};
+use crate::filed::{EntryText, Filed};
+use crate::held::{HeldText, RowPlace, held_at, hold, place_of};
 use crate::markup::OWNER;
 use crate::names::{has_zero, is_long, is_some_text};
 use std::alloc::AllocError;
@@ -29,7 +29,7 @@ fn is_own(authority: &[u8]) -> bool
     OWNER == authority
 }
 
-fn has_key(keyed: &Keyed<'_>) -> bool
+fn has_key(keyed: &EntryText<'_>) -> bool
     ensures { result ≡ has_key keyed.now }
 {
     is_some_text(keyed.authority) && !is_own(keyed.authority) && is_some_text(keyed.code)
@@ -69,7 +69,7 @@ fn by_text(text: &[u8], earlier: &[u8]) -> Verdict
 
 /// Whether an entry is inserted after others, whose texts these are. If it is, its text is held, too.
 pub fn judge<'a>(
-    held: &mut BTreeMap<RowPlace<'a>, Held<'a>>,
+    held: &mut BTreeMap<RowPlace<'a>, HeldText<'a>>,
     filed: &Filed<'a>,
 ) -> Result<Verdict, AllocError>
     ensures { (before : List OneFiled) → Holds held.old (λ p. text_at p before)

@@ -38,6 +38,7 @@ pub fn part_claims(alloc: Global, crs: &CrsParts) -> Result<Vec<Claim>, AllocErr
             &crs.get().second,
         )?,
     }
+    claims.shrink_to_fit();
     Ok(claims)
 }
 

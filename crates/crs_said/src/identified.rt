@@ -38,6 +38,7 @@ pub(crate) fn push_part<T: Says>(
     };
     let mut content = Vec::with_capacity(alloc, CONTENT)?;
     part.say(true, &mut content)?;
+    content.shrink_to_fit();
     push_id(alloc, claims, kind, name, content, id)
 }
 

@@ -23,6 +23,7 @@ pub fn without_names(alloc: Global, crs: &CrsParts) -> Result<Vec<u8>, AllocErro
         CrsParts::Single(crs) => crs.say(false, &mut text)?,
         CrsParts::Compound(crs) => crs.get().say(false, &mut text)?,
     }
+    text.shrink_to_fit();
     Ok(text)
 }
 

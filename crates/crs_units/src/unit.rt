@@ -6,7 +6,7 @@ ghost use Rattle.crs_value.specs.Units.{units_of, own_units};
 ghost use Rattle.crs_units.specs.Unit.{is_off, is_unit_odd, unit, whole_unit, source_said, unit_said, unit_told};
 
 use crate::known::KnownUnit;
-use crate::walk::HasUnits;
+use crate::walk::UnitWalk;
 use crs_exact::{is_below, is_beyond, joined, number};
 use crs_number::Decimal;
 use crs_part::{Compound, Single, UnitDefinition};

@@ -15,7 +15,7 @@ use crs_part::{
 };
 
 /// A value that contains units.
-pub(crate) trait HasUnits {
+pub(crate) trait UnitWalk {
     ghost units: { Self → List UnitDefinition };
 
     /// The first unit with another factor than its name says.
@@ -23,7 +23,7 @@ pub(crate) trait HasUnits {
         ensures { option_map (λ unit. unit.now) result ≡ find is_unit_odd (units self.now) };
 }
 
-impl<T: HasUnits> HasUnits for Option<T> {
+impl<T: UnitWalk> UnitWalk for Option<T> {
     ghost units = { λ part. option_map_or T.units part [] };
 
     fn odd_unit(&self) -> Option<&UnitDefinition> {
@@ -34,7 +34,7 @@ impl<T: HasUnits> HasUnits for Option<T> {
     }
 }
 
-impl<T: HasUnits> HasUnits for Many<T> {
+impl<T: UnitWalk> UnitWalk for Many<T> {
     ghost units = { flat_map T.units };
 
     fn odd_unit(&self) -> Option<&UnitDefinition> {
@@ -42,7 +42,7 @@ impl<T: HasUnits> HasUnits for Many<T> {
     }
 }
 
-fn odd_unit_in<T: HasUnits>(parts: &[T]) -> Option<&UnitDefinition>
+fn odd_unit_in<T: UnitWalk>(parts: &[T]) -> Option<&UnitDefinition>
     ensures { option_map (λ unit. unit.now) result ≡ find is_unit_odd (flat_map T.units parts.now) }
 {
     let mut rest = parts;
@@ -69,7 +69,7 @@ fn or<'a>(
     }
 }
 
-impl<T: HasUnits> HasUnits for NonEmpty<T> {
+impl<T: UnitWalk> UnitWalk for NonEmpty<T> {
     ghost units = { λ some. flat_map T.units (items_of some) };
 
     fn odd_unit(&self) -> Option<&UnitDefinition> {
@@ -77,7 +77,7 @@ impl<T: HasUnits> HasUnits for NonEmpty<T> {
     }
 }
 
-impl HasUnits for UnitDefinition {
+impl UnitWalk for UnitDefinition {
     ghost use Rattle.std.specs.Prelude.{[], ◌∷◌};
 
     ghost units = { λ unit. unit ∷ [] };
@@ -90,7 +90,7 @@ impl HasUnits for UnitDefinition {
     }
 }
 
-impl HasUnits for Unit {
+impl UnitWalk for Unit {
     ghost units = { any_units };
 
     fn odd_unit(&self) -> Option<&UnitDefinition> {
@@ -103,7 +103,7 @@ impl HasUnits for Unit {
     }
 }
 
-impl HasUnits for LengthUnit {
+impl UnitWalk for LengthUnit {
     ghost units = { length_units };
 
     fn odd_unit(&self) -> Option<&UnitDefinition> {
@@ -113,7 +113,7 @@ impl HasUnits for LengthUnit {
     }
 }
 
-impl HasUnits for AngleUnit {
+impl UnitWalk for AngleUnit {
     ghost units = { angle_units };
 
     fn odd_unit(&self) -> Option<&UnitDefinition> {
@@ -123,7 +123,7 @@ impl HasUnits for AngleUnit {
     }
 }
 
-impl HasUnits for VerticalExtent {
+impl UnitWalk for VerticalExtent {
     ghost units = { extent_units };
 
     fn odd_unit(&self) -> Option<&UnitDefinition> {
@@ -131,7 +131,7 @@ impl HasUnits for VerticalExtent {
     }
 }
 
-impl HasUnits for Usage {
+impl UnitWalk for Usage {
     ghost units = { usage_units };
 
     fn odd_unit(&self) -> Option<&UnitDefinition> {
@@ -139,7 +139,7 @@ impl HasUnits for Usage {
     }
 }
 
-impl HasUnits for GeodeticFrame {
+impl UnitWalk for GeodeticFrame {
     ghost units = { frame_units };
 
     fn odd_unit(&self) -> Option<&UnitDefinition> {
@@ -147,7 +147,7 @@ impl HasUnits for GeodeticFrame {
     }
 }
 
-impl HasUnits for PrimeMeridian {
+impl UnitWalk for PrimeMeridian {
     ghost units = { prime_meridian_units };
 
     fn odd_unit(&self) -> Option<&UnitDefinition> {
@@ -155,7 +155,7 @@ impl HasUnits for PrimeMeridian {
     }
 }
 
-impl HasUnits for Meridian {
+impl UnitWalk for Meridian {
     ghost units = { meridian_units };
 
     fn odd_unit(&self) -> Option<&UnitDefinition> {
@@ -163,7 +163,7 @@ impl HasUnits for Meridian {
     }
 }
 
-impl HasUnits for Axis {
+impl UnitWalk for Axis {
     ghost units = { axis_units };
 
     fn odd_unit(&self) -> Option<&UnitDefinition> {
@@ -171,7 +171,7 @@ impl HasUnits for Axis {
     }
 }
 
-impl HasUnits for Parameter {
+impl UnitWalk for Parameter {
     ghost units = { parameter_units };
 
     fn odd_unit(&self) -> Option<&UnitDefinition> {
@@ -179,7 +179,7 @@ impl HasUnits for Parameter {
     }
 }
 
-impl HasUnits for Conversion {
+impl UnitWalk for Conversion {
     ghost units = { conversion_units };
 
     fn odd_unit(&self) -> Option<&UnitDefinition> {
@@ -187,7 +187,7 @@ impl HasUnits for Conversion {
     }
 }
 
-impl HasUnits for BaseCrs {
+impl UnitWalk for BaseCrs {
     ghost units = { base_units };
 
     fn odd_unit(&self) -> Option<&UnitDefinition> {
@@ -198,7 +198,7 @@ impl HasUnits for BaseCrs {
     }
 }
 
-impl HasUnits for Single {
+impl UnitWalk for Single {
     ghost units = { units_of };
 
     fn odd_unit(&self) -> Option<&UnitDefinition> {

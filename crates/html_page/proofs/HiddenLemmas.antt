@@ -4,7 +4,7 @@ use Rattle.std.proofs.lemmas.Bool.Decides.{nat_tests}
 use Rattle.text_hidden.specs.Set.{is_hidden}
 use Rattle.text_hidden.specs.Bytes.{continues, hidden_if, hidden_of_two, hidden_of_three}
 use Rattle.text_hidden.specs.Marks.{digit, mark}
-use Rattle.text_hidden.specs.declared.bytes.Hidden.{Hidden}
+use Rattle.text_hidden.specs.declared.bytes.HiddenCharacter.{HiddenCharacter}
 use Rattle.text_hidden.proofs.ByteLemmas.{none_if}
 use Rattle.text_hidden.proofs.MarkLemmas.{digit_shown}
 use Rattle.html_page.specs.declared.marks.Feeds.{Feeds}
@@ -12,7 +12,7 @@ use Rattle.html_page.specs.Marks.{is_kept, marked_at, shown, more_of, marked_aft
 
 -- ---- a byte that stays, before marked bytes
 
-two_at : (feeds : Feeds) (b c : ℕ) (r : List ℕ) (h : Option Hidden) → hidden_of_two b (c ∷ r) ≡ None → hidden_of_two b (shown c h ++ marked_after feeds (more_of h) r) ≡ None
+two_at : (feeds : Feeds) (b c : ℕ) (r : List ℕ) (h : Option HiddenCharacter) → hidden_of_two b (c ∷ r) ≡ None → hidden_of_two b (shown c h ++ marked_after feeds (more_of h) r) ≡ None
 two_at feeds b c r None e = e
 two_at feeds b c r (Some h) e = refl
 
@@ -20,15 +20,15 @@ two_keeps : (feeds : Feeds) (b : ℕ) (rest : List ℕ) → hidden_of_two b rest
 two_keeps feeds b [] e = refl
 two_keeps feeds b (c ∷ r) e = two_at feeds b c r (marked_at feeds c r) e
 
-no_third : (x : Bool) (a : Option Hidden) → (if x && false then a else None) ≡ None
+no_third : (x : Bool) (a : Option HiddenCharacter) → (if x && false then a else None) ≡ None
 no_third true a = refl
 no_third false a = refl
 
-three_second : (feeds : Feeds) (b c d : ℕ) (q : List ℕ) (h : Option Hidden) → hidden_of_three b (c ∷ d ∷ q) ≡ None → hidden_of_three b (c ∷ (shown d h ++ marked_after feeds (more_of h) q)) ≡ None
+three_second : (feeds : Feeds) (b c d : ℕ) (q : List ℕ) (h : Option HiddenCharacter) → hidden_of_three b (c ∷ d ∷ q) ≡ None → hidden_of_three b (c ∷ (shown d h ++ marked_after feeds (more_of h) q)) ≡ None
 three_second feeds b c d q None e = e
 three_second feeds b c d q (Some h) e = no_third (continues c) _
 
-three_at : (feeds : Feeds) (b c : ℕ) (h : Option Hidden) (r : List ℕ) → hidden_of_three b (c ∷ r) ≡ None → hidden_of_three b (shown c h ++ marked_after feeds (more_of h) r) ≡ None
+three_at : (feeds : Feeds) (b c : ℕ) (h : Option HiddenCharacter) (r : List ℕ) → hidden_of_three b (c ∷ r) ≡ None → hidden_of_three b (shown c h ++ marked_after feeds (more_of h) r) ≡ None
 three_at feeds b c (Some h) r e = refl
 three_at feeds b c None [] e = refl
 three_at feeds b c None (d ∷ q) e = three_second feeds b c d q (marked_at feeds d q) e
@@ -78,7 +78,7 @@ mark_seen feeds n rest =
 
 -- ---- whole texts
 
-first_seen : (feeds : Feeds) (b : ℕ) (rest : List ℕ) (h : Option Hidden) → marked_at feeds b rest ≡ h → ((more : ℕ) → has_none feeds (marked_after feeds more rest) ≡ true)
+first_seen : (feeds : Feeds) (b : ℕ) (rest : List ℕ) (h : Option HiddenCharacter) → marked_at feeds b rest ≡ h → ((more : ℕ) → has_none feeds (marked_after feeds more rest) ≡ true)
     → has_none feeds (shown b h ++ marked_after feeds (more_of h) rest) ≡ true
 first_seen feeds b rest None e others = seen feeds b (marked feeds rest) (keeps feeds b rest e) ∙ others 0
 first_seen feeds b rest (Some h) e others = mark_seen feeds h.number (marked_after feeds h.more rest) ∙ others h.more

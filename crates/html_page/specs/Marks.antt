@@ -2,7 +2,7 @@
 use Rattle.std.specs.Prelude.{ℕ, zero, suc, Bool, true, false, ◌&&◌, ◌==◌, List, [], ◌∷◌, ◌++◌, Option, Some, None, is_none, if◌then◌else◌}
 use Rattle.text_hidden.specs.Bytes.{hidden_at}
 use Rattle.text_hidden.specs.Marks.{mark}
-use Rattle.text_hidden.specs.declared.bytes.Hidden.{Hidden}
+use Rattle.text_hidden.specs.declared.bytes.HiddenCharacter.{HiddenCharacter}
 use Rattle.html_page.specs.declared.marks.Feeds.{Feeds}
 use Rattle.html_page.specs.declared.marks.Feeds.TheVariants.{Marked, Kept}
 
@@ -15,14 +15,14 @@ abbrev pub is_kept : Feeds → ℕ → Bool
 is_kept feeds b = (b == 10) && keeps_feeds feeds
 
 -- the character with which a text begins, if it is marked: a hidden one that is not kept
-abbrev pub marked_at : Feeds → ℕ → List ℕ → Option Hidden
+abbrev pub marked_at : Feeds → ℕ → List ℕ → Option HiddenCharacter
 marked_at feeds b rest = if is_kept feeds b then None else hidden_at b rest
 
-abbrev pub shown : ℕ → Option Hidden → List ℕ
+abbrev pub shown : ℕ → Option HiddenCharacter → List ℕ
 shown b None = b ∷ []
 shown b (Some hidden) = mark hidden.number
 
-abbrev pub more_of : Option Hidden → ℕ
+abbrev pub more_of : Option HiddenCharacter → ℕ
 more_of None = 0
 more_of (Some hidden) = hidden.more
 

@@ -2,8 +2,8 @@
 use Rattle.std.specs.Prelude.{◌≡◌, ◌++◌, ℕ, List, []}
 use Rattle.std.specs.List.{flat_map}
 use Rattle.html_page.specs.declared.marks.Feeds.TheVariants.{Marked, Kept}
-use Rattle.html_page.specs.declared.pieces.Piece.{Piece as Declared}
-use Rattle.html_page.specs.declared.pieces.Piece.TheVariants as declared
+use Rattle.html_page.specs.declared.pieces.PagePiece.{PagePiece as Declared}
+use Rattle.html_page.specs.declared.pieces.PagePiece.TheVariants as declared
 use Rattle.html_page.specs.Escaped.{escaped}
 use Rattle.html_page.specs.Marks.{marked}
 use Rattle.html_page.specs.Short.{short}

@@ -1,12 +1,12 @@
 -- The shape of a page: its contents without the texts.
 use Rattle.std.specs.Prelude.{ℕ, List, [], map}
-use Rattle.html_page.specs.declared.head.Figures.{Figures}
+use Rattle.html_page.specs.declared.head.PageFigures.{PageFigures}
 use Rattle.html_page.specs.Shown.{Link, Entered, Awaited, Event, SupersededBy, RetiredBy, Box, Entry, Word, Side, Pair, Conflict, Gap, Shown}
 
 abbrev pub no_text : List ℕ → List ℕ
 no_text text = []
 
-abbrev pub figures_shape : Figures
+abbrev pub figures_shape : PageFigures
 figures_shape = record { entries = 0; valid = 0; superseded = 0; retired = 0; conflicts = 0; awaited = 0; gaps = 0; operations = 0 }
 
 abbrev pub link_shape : Link → Link

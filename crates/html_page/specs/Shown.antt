@@ -1,6 +1,6 @@
 -- The contents of the page of a register. Ids, keys, names, areas and notes are texts.
 use Rattle.std.specs.Prelude.{ℕ, Bool, List}
-use Rattle.html_page.specs.declared.head.Figures.{Figures}
+use Rattle.html_page.specs.declared.head.PageFigures.{PageFigures}
 use Rattle.html_page.specs.declared.standing.Standing.{Standing}
 
 -- an entry that another one names, with its key; or the id of one that was not entered
@@ -64,7 +64,7 @@ pub record Gap : Type 0 where
 
 pub record Shown : Type 0 where
   pub title : List ℕ
-  pub figures : Figures
+  pub figures : PageFigures
   pub conflicts : List Conflict
   pub awaited : List (List ℕ)
   pub gaps : List Gap

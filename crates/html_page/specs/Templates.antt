@@ -7,7 +7,7 @@ use Rattle.html_page.specs.declared.style.TheConstants.{STYLE}
 use Rattle.html_page.specs.declared.script.TheConstants.{SCRIPT}
 use Rattle.html_page.specs.declared.standing.Standing.{Standing}
 use Rattle.html_page.specs.declared.standing.Standing.TheVariants as standing
-use Rattle.html_page.specs.declared.head.Figures.{Figures}
+use Rattle.html_page.specs.declared.head.PageFigures.{PageFigures}
 use Rattle.html_page.specs.Shown.{Link, Entered, Awaited, Event, SupersededBy, RetiredBy, Box, Entry, Word, Side, Pair, Conflict, Gap, Shown}
 
 -- ---- the head, and the counts
@@ -23,7 +23,7 @@ number before n after = Markup before ∷ Text (decimal n) ∷ Markup after ∷ 
 abbrev pub count : ℕ → List ℕ → List Piece
 count n label = number COUNT.now n label
 
-abbrev pub figures : Figures → List Piece
+abbrev pub figures : PageFigures → List Piece
 figures f =
     count f.entries ENTRIES.now ++ count f.valid VALID.now ++ count f.superseded SUPERSEDED.now
     ++ count f.retired RETIRED.now ++ count f.conflicts IN_CONFLICT.now ++ count f.awaited AWAITED.now

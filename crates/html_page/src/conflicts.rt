@@ -8,7 +8,7 @@ use crate::markup::{
     AFTER_CONFLICT_KEY, AFTER_WORD, BEFORE_SIDE_ID, BEFORE_SIDE_NOTE, BEFORE_SIDE_WORDS, COLON,
     CONFLICT, SIDE, WORD,
 };
-use crate::pieces::Piece::{Attribute, Lines, Markup, Text};
+use crate::pieces::PagePiece::{Attribute, Lines, Markup, Text};
 use crate::pieces::push_pieces;
 use std::alloc::AllocError;
 

@@ -10,7 +10,7 @@ use crate::markup::{
     BEFORE_NAME, BEFORE_NOTE, BEFORE_OPERATION, BEFORE_STANDING, BEFORE_TEXT, COLON, ENTRY,
     QUESTION, RETIRED_CELL, SUPERSEDED_CELL, VALID_CELL,
 };
-use crate::pieces::Piece::{Attribute, Lines, Markup, Text};
+use crate::pieces::PagePiece::{Attribute, Lines, Markup, Text};
 use crate::pieces::push_pieces;
 use crate::standing::Standing;
 use std::alloc::AllocError;

@@ -8,7 +8,7 @@ use crate::markup::{
     AWAITED, BEFORE_FIGURES, BEFORE_HEADING, BEFORE_STYLE, BEFORE_TITLE, COUNT, ENTRIES, GAPS,
     IN_CONFLICT, MAIN_END, OPERATIONS, PAGE_END, RETIRED, SUPERSEDED, VALID,
 };
-use crate::pieces::Piece::{Markup, Text};
+use crate::pieces::PagePiece::{Markup, Text};
 use crate::pieces::push_pieces;
 use crate::script::SCRIPT;
 use crate::style::STYLE;
@@ -16,7 +16,7 @@ use std::alloc::{AllocError, Global};
 
 /// The counts of a register.
 #[derive(Clone, Copy, Debug, PartialEq, Eq)]
-pub struct Figures {
+pub struct PageFigures {
     pub entries: usize,
     pub valid: usize,
     pub superseded: usize,
@@ -71,7 +71,7 @@ pub fn push_number(
 }
 
 /// Appends the figures.
-pub fn push_figures(alloc: Global, page: &mut Vec<u8>, f: &Figures) -> Result<(), AllocError>
+pub fn push_figures(alloc: Global, page: &mut Vec<u8>, f: &PageFigures) -> Result<(), AllocError>
     ensures { OnOk result (Appends page.old.items page.new.items (figures f.now)) }
 {
     push_number(alloc, page, COUNT, f.entries, ENTRIES)?;

@@ -23,11 +23,11 @@ pub use entries::{
     push_area, push_entry_id, push_entry_start, push_entry_text, push_operation_id,
     push_operation_note, push_question, push_standing,
 };
-pub use head::{Figures, push_end, push_figures, push_head, push_mark, push_number};
+pub use head::{PageFigures, push_end, push_figures, push_head, push_mark, push_number};
 pub use links::{push_awaited_link, push_link};
 pub use maps::push_map;
 pub use marks::Feeds;
 pub use missing::{push_awaited, push_gap_counts, push_gap_start};
-pub use pieces::{Piece, push_pieces};
+pub use pieces::{PagePiece, push_pieces};
 pub use standing::Standing;
 pub use words::push_compared;

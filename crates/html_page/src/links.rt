@@ -5,7 +5,7 @@ ghost use Rattle.html_page.specs.Pieces.{Appends};
 ghost use Rattle.html_page.specs.Templates.{link_entered, link_awaited};
 
 use crate::markup::{AFTER_LINK, AFTER_MISSING, BEFORE_LINK_KEY, COLON, LINK, MISSING};
-use crate::pieces::Piece::{Attribute, Markup, Short, Text};
+use crate::pieces::PagePiece::{Attribute, Markup, Short, Text};
 use crate::pieces::push_pieces;
 use std::alloc::AllocError;
 

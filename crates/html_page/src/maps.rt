@@ -9,7 +9,7 @@ use crate::markup::{
     ACROSS, AFTER_BOX, AFTER_MAP, AFTER_WEST_END, BEFORE_EAST, BEFORE_NORTH, BEFORE_SOUTH,
     BEFORE_WEST, BOX, COMMA, FROM_WEST_END, MAP, TO_EAST_END, UP,
 };
-use crate::pieces::Piece::{Markup, Numeral, Text};
+use crate::pieces::PagePiece::{Markup, Numeral, Text};
 use crate::pieces::push_pieces;
 use std::alloc::AllocError;
 

@@ -7,7 +7,7 @@ ghost use Rattle.html_page.specs.Marks.{is_kept, marked_at, shown, more_of, mark
 
 use crate::escaping::{push_byte, push_escaped};
 use std::alloc::AllocError;
-use text_hidden::{Hidden, hidden_at};
+use text_hidden::{HiddenCharacter, hidden_at};
 
 /// Whether line feeds are marked like other control characters, or kept.
 #[derive(Clone, Copy, Debug, PartialEq, Eq)]
@@ -23,7 +23,7 @@ fn is_kept(feeds: Feeds, byte: u8) -> bool
 }
 
 // The character that these bytes begin with, if it is marked.
-fn marked_at(feeds: Feeds, byte: u8, rest: &[u8]) -> Option<Hidden>
+fn marked_at(feeds: Feeds, byte: u8, rest: &[u8]) -> Option<HiddenCharacter>
     ensures { result ≡ marked_at feeds byte rest.now }
 {
     if is_kept(feeds, byte) {
@@ -64,7 +64,11 @@ fn push_mark(page: &mut Vec<u8>, number: u32) -> Result<(), AllocError>
 }
 
 // Appends the character's mark, or the byte. Returns the number of bytes after it that belong to it.
-fn push_first(page: &mut Vec<u8>, byte: u8, hidden: Option<Hidden>) -> Result<usize, AllocError>
+fn push_first(
+    page: &mut Vec<u8>,
+    byte: u8,
+    hidden: Option<HiddenCharacter>,
+) -> Result<usize, AllocError>
     ensures { IfOk result (λ more. (more ≡ more_of hidden) × (page.new.items ≡ page.old.items ++ escaped (shown byte hidden))) }
 {
     let Some(hidden) = hidden else {

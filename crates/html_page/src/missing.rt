@@ -8,7 +8,7 @@ use crate::head::push_number;
 use crate::markup::{
     AFTER_AWAITED_ITEM, AFTER_GAP, AFTER_LOW, AWAITED_ITEM, BEFORE_HIGH, BEFORE_LOW, GAP,
 };
-use crate::pieces::Piece::{Markup, Text};
+use crate::pieces::PagePiece::{Markup, Text};
 use crate::pieces::push_pieces;
 use std::alloc::{AllocError, Global};
 

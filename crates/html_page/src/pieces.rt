@@ -9,7 +9,7 @@ use std::alloc::AllocError;
 
 /// A part of a page.
 #[derive(Drop)]
-pub enum Piece<'a> {
+pub enum PagePiece<'a> {
     /// A constant of the program.
     Markup(&'static [u8]),
     /// A text between tags, on one line.
@@ -25,21 +25,21 @@ pub enum Piece<'a> {
 }
 
 #[tactic(auto, unfolding(crate::specs::Pieces::bytes_of))]
-fn push_piece(page: &mut Vec<u8>, piece: &Piece<'_>) -> Result<(), AllocError>
+fn push_piece(page: &mut Vec<u8>, piece: &PagePiece<'_>) -> Result<(), AllocError>
     ensures { OnOk result (page.new.items ≡ page.old.items ++ bytes_of (seen piece.now)) }
 {
     match piece {
-        Piece::Markup(constant) => page.extend_from_slice(constant),
-        Piece::Text(text) => push_marked(page, Feeds::Marked, text),
-        Piece::Lines(text) => push_marked(page, Feeds::Kept, text),
-        Piece::Short(text) => push_short(page, text),
-        Piece::Attribute(text) => push_marked(page, Feeds::Marked, text),
-        Piece::Numeral(text) => push_marked(page, Feeds::Marked, text),
+        PagePiece::Markup(constant) => page.extend_from_slice(constant),
+        PagePiece::Text(text) => push_marked(page, Feeds::Marked, text),
+        PagePiece::Lines(text) => push_marked(page, Feeds::Kept, text),
+        PagePiece::Short(text) => push_short(page, text),
+        PagePiece::Attribute(text) => push_marked(page, Feeds::Marked, text),
+        PagePiece::Numeral(text) => push_marked(page, Feeds::Marked, text),
     }
 }
 
 #[tactic(auto, unfolding(crate::specs::Pieces::html))]
-fn push_each(page: &mut Vec<u8>, pieces: &[Piece<'_>]) -> Result<(), AllocError>
+fn push_each(page: &mut Vec<u8>, pieces: &[PagePiece<'_>]) -> Result<(), AllocError>
     ensures { OnOk result (page.new.items ≡ page.old.items ++ html (map seen pieces.now)) }
 {
     for piece in pieces {
@@ -49,7 +49,7 @@ fn push_each(page: &mut Vec<u8>, pieces: &[Piece<'_>]) -> Result<(), AllocError>
 }
 
 /// Appends the pieces.
-pub fn push_pieces(page: &mut Vec<u8>, pieces: &[Piece<'_>]) -> Result<(), AllocError>
+pub fn push_pieces(page: &mut Vec<u8>, pieces: &[PagePiece<'_>]) -> Result<(), AllocError>
     ensures { OnOk result (Appends page.old.items page.new.items (map seen pieces.now)) }
 {
     push_each(page, pieces)?;

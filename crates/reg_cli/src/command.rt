@@ -5,7 +5,7 @@ use crate::shells::completions;
 use crate::telling::{StandardError, told, told_plainly};
 use clap::error::ErrorKind;
 use clap::{ArgMatches, Error};
-use cli_exchange::faults::{Named, print_lines};
+use cli_exchange::faults::{CommandFiles, print_lines};
 use cli_exchange::{downgrade, merge, new, piece, seen, shelf, take, unshelf};
 use cli_hand::{export, graph, ops, page, show, wkt};
 use cli_import::changes::{misnamed, office, retire, supersede};
@@ -116,7 +116,7 @@ fn performed<'a>(
     rt: &HostRuntime,
     name: CommandName,
     inner: &ArgMatches<'a>,
-    named: &Option<Named<'a>>,
+    named: &Option<CommandFiles<'a>>,
 ) -> Option<u8> {
     let to = StandardError {
         rt,
@@ -139,11 +139,11 @@ fn named<'a>(
     rt: &HostRuntime,
     name: CommandName,
     inner: &ArgMatches<'a>,
-) -> Result<Option<Named<'a>>, AllocError> {
+) -> Result<Option<CommandFiles<'a>>, AllocError> {
     if !explains(inner) {
         return Ok(None);
     }
-    let named = Named::of(rt, name, inner)?;
+    let named = CommandFiles::of(rt, name, inner)?;
     Ok(Some(named))
 }
 

@@ -1,6 +1,6 @@
 //! Outputs that a command would destroy: an office file, or a shelf, in the place of the register that it writes.
 use clap::ArgMatches;
-use cli_exchange::faults::Head;
+use cli_exchange::faults::FileHead;
 use cli_open::word;
 use cli_words::{CommandName, Role};
 use std::rt::Files;
@@ -24,16 +24,16 @@ pub fn overwritten<R: Files>(
         CommandName::Office => None,
         // It replaces a shelf by an empty one, as its help says.
         CommandName::Shelf => {
-            if Head::at(rt, word(matches, "NEW"))?.is_office() {
+            if FileHead::at(rt, word(matches, "NEW"))?.is_office() {
                 return Some(NEW_IS_OFFICE);
             }
             None
         }
-        _ => spoiled(&Head::at(rt, output(name, matches)?)?),
+        _ => spoiled(&FileHead::at(rt, output(name, matches)?)?),
     }
 }
 
-fn spoiled(head: &Head) -> Option<&'static str> {
+fn spoiled(head: &FileHead) -> Option<&'static str> {
     if head.is_office() {
         return Some(OUT_IS_OFFICE);
     }

@@ -1,7 +1,7 @@
 //! What standard error tells of faults, of what was left out, and of what was brought.
 use crate::telling::{Said, SaidLast, StandardError};
-use cli_exchange::faults::sentences::{Command, KeyTaken, LEAVES_OUT, Shown};
-use cli_exchange::faults::{Named, Second, add, explain, explain_word, say};
+use cli_exchange::faults::sentences::{KeyTaken, LEAVES_OUT, Shown, SpecialCommand};
+use cli_exchange::faults::{CommandFiles, SecondLook, add, explain, explain_word, say};
 use cli_exchange::{Gained, say_gained};
 use cli_hand::LeftKey;
 use cli_import::changes::{ListFault, ToldLine};
@@ -212,7 +212,7 @@ fn advise(to: &StandardError<'_, '_>, fault: &ImportFault) {
         return;
     };
     if let ImportFault::Refused { .. } = fault {
-        if let Command::Import { .. } = named.command {
+        if let SpecialCommand::Import { .. } = named.command {
             if !named.keeps_going {
                 to.line(&LEAVES_OUT);
             }
@@ -232,8 +232,8 @@ fn explain_import(to: &StandardError<'_, '_>, fault: ImportFault) {
     }
 }
 
-fn explain_taken(rt: &HostRuntime, entry: OpId, file: usize, named: &Named<'_>) {
-    let second = Second::entry(rt, named, entry);
+fn explain_taken(rt: &HostRuntime, entry: OpId, file: usize, named: &CommandFiles<'_>) {
+    let second = SecondLook::entry(rt, named, entry);
     let sentence = KeyTaken {
         entry,
         head: second.found().head,

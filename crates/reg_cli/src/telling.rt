@@ -5,7 +5,7 @@ ghost use Rattle.cli_outcome.specs.Outcome.{left_out_status, whole_status, done_
 ghost use Rattle.reg_cli.specs.Statuses.{plain_status};
 
 use clap::ArgMatches;
-use cli_exchange::faults::Named;
+use cli_exchange::faults::CommandFiles;
 use cli_look::desk::CliFault;
 use cli_outcome::{Done, NotDone, Outcome, ended};
 use std::fmt;
@@ -15,7 +15,7 @@ use std::fmt;
 pub struct StandardError<'a, 'b> {
     pub rt: &'a HostRuntime,
     pub matches: &'a ArgMatches<'b>,
-    pub named: &'a Option<Named<'b>>,
+    pub named: &'a Option<CommandFiles<'b>>,
 }
 
 impl StandardError<'_, '_> {

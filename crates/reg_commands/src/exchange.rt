@@ -51,9 +51,9 @@ impl Give for Whole {
 
 /// The file of the ids that the register has seen.
 #[derive(Drop)]
-pub struct Summary;
+pub struct SeenFile;
 
-impl Give for Summary {
+impl Give for SeenFile {
     ghost use Rattle.reg_commands.specs.Exchange.{IsSummary, HasNoSummary};
 
     ghost gives = { λ old. λ new. λ next. λ x. λ bytes. IsSummary x bytes };
@@ -169,7 +169,7 @@ pub fn run_seen<S: Input, P: Place>(
     ensures fault { IfErr result (IsUngiven (of_file (S.state source.old) (S.state source.new)) IsSummary HasNoSummary (Unit {0})
         (kept_of (S.keeps source.new) (S.state source.new)) (P.state place.old) (P.state place.new)) }
 {
-    match run_give(alloc, &mut OfFile { source }, &mut Summary, place) {
+    match run_give(alloc, &mut OfFile { source }, &mut SeenFile, place) {
         Ok(()) => Ok(()),
         Err(fault) => Err(fault),
     }

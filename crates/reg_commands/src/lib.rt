@@ -17,14 +17,14 @@ mod words;
 
 pub use change::{Enter, Retire, Supersede, retired, superseded};
 pub use check::run_check;
-pub use exchange::{FirstVersion, PieceFor, Summary, Whole, run_piece, run_seen, run_unshelf};
+pub use exchange::{FirstVersion, PieceFor, SeenFile, Whole, run_piece, run_seen, run_unshelf};
 pub use export::{Export, run_export};
 pub use merge::{join_pieces, join_registers, run_merge, run_new};
 pub use merge_on::run_merge_on;
 pub use on_devices::{
     run_enter, run_enter_on, run_retire, run_retire_on, run_supersede, run_supersede_on,
 };
-pub use reports::{Ops, Report, Show, run_ops, run_report, run_show};
+pub use reports::{OpsReport, Report, Show, run_ops, run_report, run_show};
 pub use shelves::run_shelf;
 pub use wkt::{Form, Wkt, run_wkt};
 pub use words::{

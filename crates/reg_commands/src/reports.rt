@@ -37,9 +37,9 @@ impl Print for Report {
 
 /// Prints a line for each operation that the register keeps.
 #[derive(Drop)]
-pub struct Ops;
+pub struct OpsReport;
 
-impl Print for Ops {
+impl Print for OpsReport {
     ghost use Rattle.reg_report.specs.Reports.{IsOpsReport};
     ghost use Rattle.reg_engine.specs.Store.{Never};
 
@@ -104,7 +104,7 @@ pub fn run_ops<S: Source, K: Sink>(
     ensures reported { OnOk result (IsPrinted (of_file (S.state source.old) (S.state source.new)) IsOpsReport (K.state sink.old) (K.state sink.new)) }
     ensures fault { IfErr result (IsUnprinted (of_file (S.state source.old) (S.state source.new)) IsOpsReport Never (K.state sink.old) (K.state sink.new)) }
 {
-    match run_print(alloc, &mut OfFile { source }, &Ops, sink) {
+    match run_print(alloc, &mut OfFile { source }, &OpsReport, sink) {
         Ok(()) => Ok(()),
         Err(fault) => Err(fault),
     }

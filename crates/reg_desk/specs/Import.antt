@@ -114,7 +114,7 @@ abbrev pub IsUncounted : ℕ → Option FileText → Type 0
 IsUncounted first None = Unit {0}
 IsUncounted first (Some t) = 2 ^ 64 ≤ first + t.file
 
--- the fault of a text that is refused takes memory: it is explained, or it cannot be told
+-- the fault of a text that is refused takes memory: it is explained, or it cannot be reported
 abbrev pub TakesMemory : ImportOptions → ℕ → Option FileText → Type 0
 TakesMemory o first t = (o.explain ≡ true) ⊎ IsUncounted first t
 
@@ -161,7 +161,7 @@ pub record EndsAtFirst (o : ImportOptions) (first : ℕ) (files : List (List ℕ
   pub cut : AreCuts 0 files (text ∷ later)
   pub told : IsFaultOf first text k
 
--- memory ran out while the texts were read. What takes no memory is told nevertheless: that the note is too long, and the fault of the
+-- memory ran out while the texts were read. What takes no memory is reported nevertheless: that the note is too long, and the fault of the
 -- first text, if the import ends there
 abbrev pub EndsEarly : ImportOptions → ℕ → Content → List (List ℕ) → Unimported → Type 0
 EndsEarly o first x files u = (IsPlain (λ f. f ≡ cli.Memory) u × (length o.note.now ≤ 200) × MayHideFirst o first files)

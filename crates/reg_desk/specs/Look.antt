@@ -14,8 +14,8 @@ use Rattle.reg_shelf.specs.Shelf.{IsShelf}
 use Rattle.reg_query.specs.Figures.{AreFigures}
 use Rattle.reg_desk.specs.declared.look.Look.{Look}
 use Rattle.reg_desk.specs.declared.look.Look.TheVariants as look
-use Rattle.reg_desk.specs.declared.look.Opened.{Opened}
-use Rattle.reg_desk.specs.declared.look.Opened.TheVariants as opened
+use Rattle.reg_desk.specs.declared.look.OpenedDisk.{OpenedDisk}
+use Rattle.reg_desk.specs.declared.look.OpenedDisk.TheVariants as opened
 
 -- some bytes are not a register's file, and this is their first fault
 abbrev pub IsNoRegister : List ℕ → InputFault → Type 0
@@ -82,7 +82,7 @@ abbrev pub itself : {T : Type 0} → T → T
 itself it = it
 
 -- the state of a device, opened or not
-abbrev pub opened_state : {S T : Type 0} → (S → T) → Opened S → Option T
+abbrev pub opened_state : {S T : Type 0} → (S → T) → OpenedDisk S → Option T
 opened_state state (opened.Source source) = Some (state source)
 opened_state state opened.NotOpened = None
 

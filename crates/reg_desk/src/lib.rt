@@ -23,7 +23,7 @@ pub use explained::{Explained, explained_fault, problem_of, run_check_explained}
 pub use find::{Find, FindIds};
 pub use import::{HasRoom, ImportFault, ImportOptions, Unimported, run_import, try_import};
 pub use logging::{LogAll, LogByWords, LogOf};
-pub use look::{Inspect, LateAt, Look, Opened, ShelfAt};
+pub use look::{Inspect, LateAt, Look, OpenedDisk, ShelfAt};
 pub use offices::Offices;
 pub use settle::{Settle, SettleEqual};
 pub use status::run_status;

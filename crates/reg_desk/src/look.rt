@@ -29,7 +29,7 @@ pub enum Look {
 
 /// A disk that was opened, or that could not be opened.
 #[derive(Drop)]
-pub enum Opened<S> {
+pub enum OpenedDisk<S> {
     Source(S),
     NotOpened,
 }
@@ -87,7 +87,7 @@ fn look_if(look: Look, shut: bool) -> Look
 /// A shelf, opened or not.
 #[derive(Drop)]
 pub struct ShelfAt<D> {
-    pub opened: Opened<D>,
+    pub opened: OpenedDisk<D>,
 }
 
 impl<D: Disk> Inspect for ShelfAt<D> {
@@ -100,8 +100,8 @@ impl<D: Disk> Inspect for ShelfAt<D> {
 
     fn look(&mut self, alloc: Global) -> Result<Look, AllocError> {
         match &mut self.opened {
-            Opened::Source(disk) => look_on(alloc, disk),
-            Opened::NotOpened => Ok(Look::NoShelf(ShelfProblem::NotOpened)),
+            OpenedDisk::Source(disk) => look_on(alloc, disk),
+            OpenedDisk::NotOpened => Ok(Look::NoShelf(ShelfProblem::NotOpened)),
         }
     }
 }

@@ -19,7 +19,7 @@ use Rattle.reg_report.proofs.SortLemmas.{sorted_items}
 use Rattle.reg_disorder.specs.declared.disorder.Disorder.{Disorder}
 use Rattle.reg_disorder.specs.declared.disorder.Disorder.TheVariants.{Duplicates, Dangling, Withdrawn}
 use Rattle.reg_disorder.specs.Disorders.{Keyed, keyed_cmp, IsAmiss, IsListed, AreAmiss, count_keys, how_many, CountsAmiss}
-use Rattle.reg_disorder.specs.declared.listed.Listed.{Listed}
+use Rattle.reg_disorder.specs.declared.listed.ListedEntry.{ListedEntry}
 use Rattle.reg_disorder.specs.Lists.{key_seen, listed_seen, IsLineOf, AreOf}
 use Rattle.reg_disorder.proofs.ListLemmas.{keyed_total, keyed_exact, exact_of}
 
@@ -80,9 +80,9 @@ keys_counted way rs ls n are e =
     let up : Ascends keyed_cmp ls = subst (Ascends keyed_cmp) (sym are.are) (climbing_ascends keyed_cmp (set.items are.all) (items_climb keyed_cmp are.all)) in
     e ∙ ap length (sorted_items key_total key_exact (λ a b. is_eq (key_cmp a b)) (exact_of key_total key_exact) ks ks (dedup (λ a b. is_eq (key_cmp a b)) ks) (IsPermutation-refl ks) (keys_sorted ls up) refl)
 
-keys_seen : (ls : List Listed) → map (λ (l : Keyed). l.key) (map listed_seen ls) ≡ map key_seen ls
+keys_seen : (ls : List ListedEntry) → map (λ (l : Keyed). l.key) (map listed_seen ls) ≡ map key_seen ls
 keys_seen [] = refl
 keys_seen (l ∷ ls) = ap (λ ks. key_seen l ∷ ks) (keys_seen ls)
 
-pub keys_of_listed : (way : Disorder) (rs : List Row) (ls : List Listed) (n : ℕ) → n ≡ length (dedup (λ a b. is_eq (key_cmp a b)) (map key_seen ls)) → AreAmiss way rs (map listed_seen ls) → n ≡ count_keys (map listed_seen ls)
+pub keys_of_listed : (way : Disorder) (rs : List Row) (ls : List ListedEntry) (n : ℕ) → n ≡ length (dedup (λ a b. is_eq (key_cmp a b)) (map key_seen ls)) → AreAmiss way rs (map listed_seen ls) → n ≡ count_keys (map listed_seen ls)
 keys_of_listed way rs ls n e are = keys_counted way rs (map listed_seen ls) n are (e ∙ ap (λ ks. length (dedup (λ a b. is_eq (key_cmp a b)) ks)) (sym (keys_seen ls)))

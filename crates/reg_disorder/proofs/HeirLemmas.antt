@@ -12,7 +12,7 @@ use Rattle.reg_op.specs.Rows.{Row}
 use Rattle.reg_op.specs.declared.status.Status.TheVariants.{Valid, Superseded}
 use Rattle.reg_op.proofs.OpLemmas.{id_total, is_same_exact}
 use Rattle.reg_report.proofs.ConflictLemmas.{none_in, in_cons, in_head, in_tail, in_map, from_map}
-use Rattle.reg_disorder.specs.declared.link.Link.{Link}
+use Rattle.reg_disorder.specs.declared.link.OlderLink.{OlderLink}
 use Rattle.reg_disorder.specs.Disorders.{IsValid, IsSupersededBy, LeadsToValid, IsDangling}
 use Rattle.reg_disorder.specs.Heirs.{link_to, is_of, AreLinks, AddsValid, AreValid, IdSet, has_id, Visits, HasHeir, HasHeirs}
 
@@ -99,10 +99,10 @@ search_begins rs todo found are empty = record {
 same_itself : (e : Id) → is_same e e ≡ true
 same_itself e = ap is_eq (tied_itself id_total e)
 
-abbrev olds_of : List Link → Id → List Id
-olds_of links id = map (λ (x : Link). x.old) (filter (is_of id) links)
+abbrev olds_of : List OlderLink → Id → List Id
+olds_of links id = map (λ (x : OlderLink). x.old) (filter (is_of id) links)
 
-module _ (rs : List Row) (links : List Link) (are : AreLinks rs links) (todo rest : List Id) (id : Id) (popped : todo ≡ rest ++ id ∷ []) (found : IdSet) (s : Searches rs todo found) where
+module _ (rs : List Row) (links : List OlderLink) (are : AreLinks rs links) (todo rest : List Id) (id : Id) (popped : todo ≡ rest ++ id ∷ []) (found : IdSet) (s : Searches rs todo found) where
   in_todo : (e : Id) → Contains rest e → Contains todo e
   in_todo e h = subst (λ l. Contains l e) (sym popped) (Contains-append_left rest (id ∷ []) e h)
 
@@ -140,7 +140,7 @@ module _ (rs : List Row) (links : List Link) (are : AreLinks rs links) (todo res
       due e h = elim (Contains-append_cases rest (olds_of links id) e (subst (λ l. Contains l e) adds h)) [
         | inl early ↦ s.due e (in_todo e early)
         | inr new ↦
-            let f = from_map (λ (x : Link). x.old) (filter (is_of id) links) e new in
+            let f = from_map (λ (x : OlderLink). x.old) (filter (is_of id) links) e new in
             let m = in_filter (is_of id) links f.0 f.1 in
             let step : IsSupersededBy rs f.0.old f.0.newer = (are f.0).0 m.0 in
             subst (HasHeir rs) (sym f.2) (f.0.newer ∷ heir.0, (step, subst (λ i. LeadsToValid rs i heir.0) (is_same_exact id f.0.newer m.1) heir.1))
@@ -154,7 +154,7 @@ module _ (rs : List Row) (links : List Link) (are : AreLinks rs links) (todo res
       ]
 
       superseded : (old newer : Id) → is_same id newer ≡ true → IsSupersededBy rs old newer → Contains (olds_of links id) old
-      superseded old newer same is = in_map (λ (x : Link). x.old) (filter (is_of id) links) (link_to old newer) (to_filter (is_of id) links (link_to old newer) ((are (link_to old newer)).1 is) same)
+      superseded old newer same is = in_map (λ (x : OlderLink). x.old) (filter (is_of id) links) (link_to old newer) (to_filter (is_of id) links (link_to old newer) ((are (link_to old newer)).1 is) same)
 
 pub search_ends : (rs : List Row) (todo : List Id) (found : IdSet) → todo ≡ [] → Searches rs todo found → HasHeirs rs found
 search_ends rs todo found none s e = (s.sound e, λ h. reaches h.0 e h.1)
@@ -170,42 +170,42 @@ search_ends rs todo found none s e = (s.sound e, λ h. reaches h.0 e h.1)
 -- ---- that it ends
 
 -- the links whose newer entry is not found yet, and the entries to do
-abbrev pub left : List Link → List Id → IdSet → ℕ
-left links todo found = count_by (λ (x : Link). not (has_id found x.newer)) links + length todo
+abbrev pub left : List OlderLink → List Id → IdSet → ℕ
+left links todo found = count_by (λ (x : OlderLink). not (has_id found x.newer)) links + length todo
 
-pub less_left : (links : List Link) (todo rest : List Id) (id : Id) → todo ≡ rest ++ id ∷ [] → (found next : IdSet) (later : List Id) → Visits links id rest found later next → left links later next < left links todo found
+pub less_left : (links : List OlderLink) (todo rest : List Id) (id : Id) → todo ≡ rest ++ id ∷ [] → (found next : IdSet) (later : List Id) → Visits links id rest found later next → left links later next < left links todo found
 less_left links todo rest id popped found next later (inl (was, same, keeps)) =
     omega (arith, same_count links, ap length same, ap length popped, length-append rest (id ∷ []))
   where
-    same_count : (xs : List Link) → count_by (λ (x : Link). not (has_id next x.newer)) xs ≡ count_by (λ (x : Link). not (has_id found x.newer)) xs
+    same_count : (xs : List OlderLink) → count_by (λ (x : OlderLink). not (has_id next x.newer)) xs ≡ count_by (λ (x : OlderLink). not (has_id found x.newer)) xs
     same_count [] = refl
     same_count (x ∷ xs) =
-        sum_by-cons (λ (y : Link). cond (not (has_id next y.newer)) 1 0) x xs
+        sum_by-cons (λ (y : OlderLink). cond (not (has_id next y.newer)) 1 0) x xs
         ∙ (λ j. cond (not (keeps x.newer j)) 1 0 + same_count xs j)
-        ∙ sym (sum_by-cons (λ (y : Link). cond (not (has_id found y.newer)) 1 0) x xs)
+        ∙ sym (sum_by-cons (λ (y : OlderLink). cond (not (has_id found y.newer)) 1 0) x xs)
 less_left links todo rest id popped found next later (inr (fresh, adds, marks)) =
-    omega (arith, fewer links, ap length adds, length-append rest (map (λ (x : Link). x.old) (filter (is_of id) links)), length-map (filter (is_of id) links) (λ (x : Link). x.old), ap length popped, length-append rest (id ∷ []))
+    omega (arith, fewer links, ap length adds, length-append rest (map (λ (x : OlderLink). x.old) (filter (is_of id) links)), length-map (filter (is_of id) links) (λ (x : OlderLink). x.old), ap length popped, length-append rest (id ∷ []))
   where
     not_yet : (i : Id) → is_same id i ≡ true → has_id found i ≡ false
     not_yet i same = subst (λ j. has_id found j ≡ false) (is_same_exact id i same) fresh
 
-    one : (x : Link) (a f : Bool) (m n l : ℕ) → (a ≡ true → f ≡ false) → m + l ≡ n → cond (not (a || f)) 1 0 + m + cond a (1 + l) l ≡ cond (not f) 1 0 + n
+    one : (x : OlderLink) (a f : Bool) (m n l : ℕ) → (a ≡ true → f ≡ false) → m + l ≡ n → cond (not (a || f)) 1 0 + m + cond a (1 + l) l ≡ cond (not f) 1 0 + n
     one x true true m n l apart h = absurd (true≢false (apart refl))
     one x true false m n l apart h = omega (arith, h)
     one x false true m n l apart h = omega (arith, h)
     one x false false m n l apart h = omega (arith, h)
 
-    long : (a : Bool) (x : Link) (xs : List Link) → length (cond a (x ∷ xs) xs) ≡ cond a (1 + length xs) (length xs)
+    long : (a : Bool) (x : OlderLink) (xs : List OlderLink) → length (cond a (x ∷ xs) xs) ≡ cond a (1 + length xs) (length xs)
     long true x xs = omega arith
     long false x xs = refl
 
-    fewer : (xs : List Link) → count_by (λ (x : Link). not (has_id next x.newer)) xs + length (filter (is_of id) xs) ≡ count_by (λ (x : Link). not (has_id found x.newer)) xs
+    fewer : (xs : List OlderLink) → count_by (λ (x : OlderLink). not (has_id next x.newer)) xs + length (filter (is_of id) xs) ≡ count_by (λ (x : OlderLink). not (has_id found x.newer)) xs
     fewer [] = refl
     fewer (x ∷ xs) =
-        ap (λ n. n + length (filter (is_of id) (x ∷ xs))) (sum_by-cons (λ (y : Link). cond (not (has_id next y.newer)) 1 0) x xs)
-        ∙ (λ j. cond (not (marks x.newer j)) 1 0 + count_by (λ (y : Link). not (has_id next y.newer)) xs + long (is_of id x) x (filter (is_of id) xs) j)
+        ap (λ n. n + length (filter (is_of id) (x ∷ xs))) (sum_by-cons (λ (y : OlderLink). cond (not (has_id next y.newer)) 1 0) x xs)
+        ∙ (λ j. cond (not (marks x.newer j)) 1 0 + count_by (λ (y : OlderLink). not (has_id next y.newer)) xs + long (is_of id x) x (filter (is_of id) xs) j)
         ∙ one x (is_same id x.newer) (has_id found x.newer) _ _ (length (filter (is_of id) xs)) (not_yet x.newer) (fewer xs)
-        ∙ sym (sum_by-cons (λ (y : Link). cond (not (has_id found y.newer)) 1 0) x xs)
+        ∙ sym (sum_by-cons (λ (y : OlderLink). cond (not (has_id found y.newer)) 1 0) x xs)
 
 -- ---- a superseded entry that was not found
 

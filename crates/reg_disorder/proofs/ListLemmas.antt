@@ -16,7 +16,7 @@ use Rattle.reg_op.specs.Rows.{Row}
 use Rattle.reg_op.proofs.OpLemmas.{id_total, id_exact}
 use Rattle.reg_report.specs.Conflicts.{KeyBytes, key_cmp}
 use Rattle.reg_report.proofs.ConflictLemmas.{none_in, key_total, key_exact}
-use Rattle.reg_disorder.specs.declared.listed.Listed.{Listed}
+use Rattle.reg_disorder.specs.declared.listed.ListedEntry.{ListedEntry}
 use Rattle.reg_disorder.specs.Disorders.{Keyed, keyed_cmp}
 use Rattle.reg_disorder.specs.Lists.{listed_seen, IsLineOf, Adds, AreOf}
 

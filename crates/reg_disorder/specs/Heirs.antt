@@ -6,23 +6,23 @@ use Rattle.std.specs.Ordering.{ordering_then}
 use Rattle.reg_op.specs.Ids.{Id, id_cmp, is_same}
 use Rattle.reg_op.specs.Rows.{Row}
 use Rattle.reg_op.specs.declared.status.Status.TheVariants.{Valid}
-use Rattle.reg_disorder.specs.declared.link.Link.{Link}
+use Rattle.reg_disorder.specs.declared.link.OlderLink.{OlderLink}
 use Rattle.reg_disorder.specs.Disorders.{IsValid, IsSupersededBy, LeadsToValid}
 
 -- ---- links
 
-abbrev pub link_cmp : Link → Link → Ordering
+abbrev pub link_cmp : OlderLink → OlderLink → Ordering
 link_cmp a b = ordering_then (id_cmp a.newer b.newer) (id_cmp a.old b.old)
 
-abbrev pub link_to : Id → Id → Link
+abbrev pub link_to : Id → Id → OlderLink
 link_to old newer = record { newer = newer; old = old }
 
-abbrev pub is_of : Id → Link → Bool
+abbrev pub is_of : Id → OlderLink → Bool
 is_of newer x = is_same newer x.newer
 
 -- a link for each entry that is not retired and each that supersedes it
-abbrev pub AreLinks : List Row → List Link → Type 0
-AreLinks rs links = (x : Link) → Contains links x ↔ IsSupersededBy rs x.old x.newer
+abbrev pub AreLinks : List Row → List OlderLink → Type 0
+AreLinks rs links = (x : OlderLink) → Contains links x ↔ IsSupersededBy rs x.old x.newer
 
 -- ---- the search
 
@@ -40,10 +40,10 @@ abbrev pub has_id : IdSet → Id → Bool
 has_id s e = contains id_cmp s e
 
 -- the id was found before; or it is found now, and the entries that it supersedes are to do
-abbrev pub Visits : List Link → Id → List Id → IdSet → List Id → IdSet → Type 0
+abbrev pub Visits : List OlderLink → Id → List Id → IdSet → List Id → IdSet → Type 0
 Visits links id todo found later next =
     ((has_id found id ≡ true) × (later ≡ todo) × ((e : Id) → has_id next e ≡ has_id found e))
-    ⊎ ((has_id found id ≡ false) × (later ≡ todo ++ map (λ (x : Link). x.old) (filter (is_of id) links)) × ((e : Id) → has_id next e ≡ (is_same id e || has_id found e)))
+    ⊎ ((has_id found id ≡ false) × (later ≡ todo ++ map (λ (x : OlderLink). x.old) (filter (is_of id) links)) × ((e : Id) → has_id next e ≡ (is_same id e || has_id found e)))
 
 abbrev pub HasHeir : List Row → Id → Type 0
 HasHeir rs e = (chain : List Id) × LeadsToValid rs e chain

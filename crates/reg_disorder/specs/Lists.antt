@@ -2,13 +2,13 @@
 use Rattle.std.specs.Prelude.{◌≡◌, Bool, true, false, List, [], ◌∷◌, ◌++◌, Contains}
 use Rattle.reg_op.specs.Rows.{Row}
 use Rattle.reg_report.specs.Conflicts.{KeyBytes, HasKey}
-use Rattle.reg_disorder.specs.declared.listed.Listed.{Listed}
+use Rattle.reg_disorder.specs.declared.listed.ListedEntry.{ListedEntry}
 use Rattle.reg_disorder.specs.Disorders.{Keyed}
 
-abbrev pub key_seen : Listed → KeyBytes
+abbrev pub key_seen : ListedEntry → KeyBytes
 key_seen l = record { authority = l.authority.bytes; code = l.code.bytes }
 
-abbrev pub listed_seen : Listed → Keyed
+abbrev pub listed_seen : ListedEntry → Keyed
 listed_seen l = record { key = key_seen l; entry = l.entry }
 
 -- it has the entry and the key of the row

@@ -8,7 +8,7 @@ ghost use Rattle.reg_disorder.specs.Heirs.{HasHeirs};
 ghost use Rattle.reg_disorder.specs.Lists.{listed_seen, AreOf};
 
 use crate::heir::with_heirs;
-use crate::listed::{Listed, push_where};
+use crate::listed::{ListedEntry, push_where};
 use crate::standing::is_superseded;
 use reg_op::OpId;
 use reg_report::Row;
@@ -26,7 +26,7 @@ fn is_dangling(found: &BTreeSet<OpId>, row: &Row) -> bool
 }
 
 /// The superseded entries from which no chain of supersessions leads to a valid one.
-pub fn dangling(alloc: Global, rows: &[Row]) -> Result<Vec<Listed>, AllocError>
+pub fn dangling(alloc: Global, rows: &[Row]) -> Result<Vec<ListedEntry>, AllocError>
     ensures { IfOk result (λ made. AreOf (IsDangling (map row_seen rows.now)) (map row_seen rows.now) (map listed_seen made.items)) }
 {
     let found = with_heirs(alloc, rows)?;

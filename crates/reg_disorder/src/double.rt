@@ -7,7 +7,7 @@ ghost use Rattle.reg_disorder.specs.Disorders.{IsDuplicate};
 ghost use Rattle.reg_disorder.specs.Lists.{listed_seen, AreOf};
 ghost use Rattle.reg_disorder.specs.Texts.{PutsText, PutsRow, HasSeveral};
 
-use crate::listed::{Listed, push_where};
+use crate::listed::{ListedEntry, push_where};
 use crate::standing::is_retired;
 use reg_report::Row;
 use std::alloc::{AllocError, Global};
@@ -67,7 +67,7 @@ fn is_repeated<'a>(several: &BTreeSet<&'a [u8]>, row: &'a Row) -> bool
 }
 
 /// The entries that are not retired and have the text of another one.
-pub fn duplicates(alloc: Global, rows: &[Row]) -> Result<Vec<Listed>, AllocError>
+pub fn duplicates(alloc: Global, rows: &[Row]) -> Result<Vec<ListedEntry>, AllocError>
     ensures { IfOk result (λ made. AreOf (IsDuplicate (map row_seen rows.now)) (map row_seen rows.now) (map listed_seen made.items)) }
 {
     let several = repeated(alloc, rows)?;

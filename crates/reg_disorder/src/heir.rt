@@ -5,7 +5,7 @@ ghost use Rattle.std.specs.List.Sorted.{IsSorted};
 ghost use Rattle.reg_report.specs.Seen.{row_seen};
 ghost use Rattle.reg_disorder.specs.Heirs.{link_cmp, AddsValid, AreValid, HasHeirs, Visits};
 
-use crate::link::{Link, links_by, links_of};
+use crate::link::{OlderLink, links_by, links_of};
 use reg_op::{OpId, Status};
 use reg_report::Row;
 use std::alloc::{AllocError, Global};
@@ -34,7 +34,7 @@ fn valid_of(alloc: Global, rows: &[Row]) -> Result<Vec<OpId>, AllocError>
 }
 
 // Appends the entries that these links supersede.
-fn push_old(todo: &mut Vec<OpId>, links: &[Link]) -> Result<(), AllocError>
+fn push_old(todo: &mut Vec<OpId>, links: &[OlderLink]) -> Result<(), AllocError>
     ensures { OnOk result (todo.new.items ≡ todo.old.items ++ map (λ x. x.old) links.now) }
 {
     for link in links {
@@ -47,7 +47,7 @@ fn push_old(todo: &mut Vec<OpId>, links: &[Link]) -> Result<(), AllocError>
 fn visit(
     todo: &mut Vec<OpId>,
     found: &mut BTreeSet<OpId>,
-    links: &[Link],
+    links: &[OlderLink],
     id: OpId,
 ) -> Result<(), AllocError>
     requires { IsSorted link_cmp links.now }

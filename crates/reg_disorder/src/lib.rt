@@ -16,5 +16,5 @@ mod withdrawn;
 
 pub use disorder::Disorder;
 pub use lines::amiss_text;
-pub use listed::Listed;
+pub use listed::ListedEntry;
 pub use listing::{amiss, count_amiss};

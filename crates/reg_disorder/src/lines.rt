@@ -6,7 +6,7 @@ ghost use Rattle.reg_disorder.specs.Lists.{listed_seen};
 ghost use Rattle.reg_disorder.specs.Reports.{keyed_fields, IsAmissText};
 
 use crate::disorder::Disorder;
-use crate::listed::Listed;
+use crate::listed::ListedEntry;
 use crate::listing::amiss;
 use csv::Writer;
 use reg_report::{printed, rows, write_fields};
@@ -20,7 +20,11 @@ fn write_header(wtr: &mut Writer<Vec<u8>>) -> Result<(), AllocError>
     write_fields(wtr, &[b"authority", b"code", b"entry"])
 }
 
-fn write_listed(alloc: Global, wtr: &mut Writer<Vec<u8>>, listed: &Listed) -> Result<(), AllocError>
+fn write_listed(
+    alloc: Global,
+    wtr: &mut Writer<Vec<u8>>,
+    listed: &ListedEntry,
+) -> Result<(), AllocError>
     requires { IsReady wtr.old }
     ensures { OnOk result (WritesRow wtr.old wtr.new (keyed_fields (listed_seen listed.now))) }
 {
@@ -31,7 +35,7 @@ fn write_listed(alloc: Global, wtr: &mut Writer<Vec<u8>>, listed: &Listed) -> Re
     )
 }
 
-fn lines_of(alloc: Global, listed: &[Listed]) -> Result<Vec<u8>, AllocError>
+fn lines_of(alloc: Global, listed: &[ListedEntry]) -> Result<Vec<u8>, AllocError>
     ensures { IfOk result (λ text. text.items ≡ sheet_of conflicts_header keyed_fields (map listed_seen listed.now)) }
 {
     let mut wtr = Writer::from_writer(Vec::new(alloc));

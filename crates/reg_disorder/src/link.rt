@@ -12,22 +12,22 @@ use std::alloc::{AllocError, Global};
 
 /// An entry, and one that it supersedes.
 #[derive(Clone, Copy, PartialEq, Eq, PartialOrd, Ord)]
-pub struct Link {
+pub struct OlderLink {
     pub newer: OpId,
     pub old: OpId,
 }
 
-fn push_links(links: &mut Vec<Link>, old: OpId, newer: &[OpId]) -> Result<(), AllocError>
+fn push_links(links: &mut Vec<OlderLink>, old: OpId, newer: &[OpId]) -> Result<(), AllocError>
     ensures { OnOk result (links.new.items ≡ links.old.items ++ map (link_to old) newer.now) }
 {
     for id in newer {
-        links.push(Link { newer: *id, old })?;
+        links.push(OlderLink { newer: *id, old })?;
     }
     Ok(())
 }
 
 /// The supersessions of the rows' entries, sorted.
-pub fn links_of(alloc: Global, rows: &[Row]) -> Result<Vec<Link>, AllocError>
+pub fn links_of(alloc: Global, rows: &[Row]) -> Result<Vec<OlderLink>, AllocError>
     ensures sorted { IfOk result (λ links. IsSorted link_cmp links.items) }
     ensures links { IfOk result (λ links. AreLinks (map row_seen rows.now) links.items) }
 {
@@ -39,20 +39,20 @@ pub fn links_of(alloc: Global, rows: &[Row]) -> Result<Vec<Link>, AllocError>
     Ok(links)
 }
 
-fn is_below(link: &Link, newer: OpId) -> bool
+fn is_below(link: &OlderLink, newer: OpId) -> bool
     ensures { result ≡ is_before link.now.newer newer }
 {
     link.newer.is_before(&newer)
 }
 
-fn is_up_to(link: &Link, newer: OpId) -> bool
+fn is_up_to(link: &OlderLink, newer: OpId) -> bool
     ensures { result ≡ not (is_before newer link.now.newer) }
 {
     !newer.is_before(&link.newer)
 }
 
 /// The supersessions by an entry, among sorted ones.
-pub fn links_by(links: &[Link], newer: OpId) -> &[Link]
+pub fn links_by(links: &[OlderLink], newer: OpId) -> &[OlderLink]
     requires { IsSorted link_cmp links.now }
     ensures { result.now ≡ filter (is_of newer) links.now }
 {

@@ -17,20 +17,20 @@ use std::cmp::Ordering;
 
 /// An entry with its key.
 #[derive(Drop)]
-pub struct Listed {
+pub struct ListedEntry {
     pub authority: Text,
     pub code: Text,
     pub entry: OpId,
 }
 
 // By the bytes of the authority, then by those of the code, and then by the id.
-fn compare(left: &Listed, right: &Listed) -> Ordering
+fn compare(left: &ListedEntry, right: &ListedEntry) -> Ordering
     ensures { result ≡ keyed_cmp (listed_seen left.now) (listed_seen right.now) }
 {
     compare_keys(left, right).then(left.entry.cmp(&right.entry))
 }
 
-fn compare_keys(left: &Listed, right: &Listed) -> Ordering
+fn compare_keys(left: &ListedEntry, right: &ListedEntry) -> Ordering
     ensures { result ≡ key_cmp (key_seen left.now) (key_seen right.now) }
 {
     left.authority
@@ -40,20 +40,20 @@ fn compare_keys(left: &Listed, right: &Listed) -> Ordering
 }
 
 /// Whether they have the same key.
-pub fn has_same_key(left: &Listed, right: &Listed) -> bool
+pub fn has_same_key(left: &ListedEntry, right: &ListedEntry) -> bool
     ensures { result ≡ is_eq (key_cmp (key_seen left.now) (key_seen right.now)) }
 {
     compare_keys(left, right).is_eq()
 }
 
-fn is_same(left: &Listed, right: &Listed) -> bool
+fn is_same(left: &ListedEntry, right: &ListedEntry) -> bool
     ensures { result ≡ is_eq (keyed_cmp (listed_seen left.now) (listed_seen right.now)) }
 {
     compare(left, right).is_eq()
 }
 
 /// Sorted, each once.
-pub fn in_order(listed: Vec<Listed>) -> Vec<Listed>
+pub fn in_order(listed: Vec<ListedEntry>) -> Vec<ListedEntry>
     ensures { map listed_seen result.items ≡ set.items (set.from_list {R = keyed_cmp} (map listed_seen listed.items)) }
 {
     let mut made = listed;
@@ -62,11 +62,11 @@ pub fn in_order(listed: Vec<Listed>) -> Vec<Listed>
     made
 }
 
-fn push_listed(alloc: Global, made: &mut Vec<Listed>, row: &Row) -> Result<(), AllocError>
+fn push_listed(alloc: Global, made: &mut Vec<ListedEntry>, row: &Row) -> Result<(), AllocError>
     ensures { OnOk result ((l : Keyed) × IsLineOf (row_seen row.now) l × (map listed_seen made.new.items ≡ map listed_seen made.old.items ++ l ∷ [])) }
 {
     let key = row.definition.key();
-    made.push(Listed {
+    made.push(ListedEntry {
         authority: key.authority.try_clone(alloc)?,
         code: key.code.try_clone(alloc)?,
         entry: row.entry,
@@ -78,7 +78,7 @@ fn push_listed(alloc: Global, made: &mut Vec<Listed>, row: &Row) -> Result<(), A
 pub fn push_where(
     alloc: Global,
     wanted: bool,
-    made: &mut Vec<Listed>,
+    made: &mut Vec<ListedEntry>,
     row: &Row,
 ) -> Result<(), AllocError>
     ensures { OnOk result (Adds wanted (row_seen row.now) (map listed_seen made.old.items) (map listed_seen made.new.items)) }
@@ -91,7 +91,7 @@ pub fn push_where(
 }
 
 /// The number of different keys of entries that are in order.
-pub fn count_keys(listed: &[Listed]) -> usize
+pub fn count_keys(listed: &[ListedEntry]) -> usize
     ensures { result ≡ length (dedup (λ a b. is_eq (key_cmp a b)) (map key_seen listed.now)) }
 {
     let Some((first, others)) = listed.split_first() else {

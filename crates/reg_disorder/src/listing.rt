@@ -9,12 +9,12 @@ ghost use Rattle.reg_disorder.specs.Lists.{listed_seen, AreOf};
 use crate::dangling::dangling;
 use crate::disorder::Disorder;
 use crate::double::duplicates;
-use crate::listed::{Listed, count_keys, in_order};
+use crate::listed::{ListedEntry, count_keys, in_order};
 use crate::withdrawn::withdrawn;
 use reg_report::Row;
 use std::alloc::{AllocError, Global};
 
-fn listed_of(alloc: Global, rows: &[Row], way: Disorder) -> Result<Vec<Listed>, AllocError>
+fn listed_of(alloc: Global, rows: &[Row], way: Disorder) -> Result<Vec<ListedEntry>, AllocError>
     ensures { IfOk result (λ made. AreOf (IsAmiss way (map row_seen rows.now)) (map row_seen rows.now) (map listed_seen made.items)) }
 {
     match way {
@@ -25,7 +25,7 @@ fn listed_of(alloc: Global, rows: &[Row], way: Disorder) -> Result<Vec<Listed>, 
 }
 
 /// The entries of these rows that are not in order in this way, by key and then by id.
-pub fn amiss(alloc: Global, rows: &[Row], way: Disorder) -> Result<Vec<Listed>, AllocError>
+pub fn amiss(alloc: Global, rows: &[Row], way: Disorder) -> Result<Vec<ListedEntry>, AllocError>
     ensures { IfOk result (λ made. AreAmiss way (map row_seen rows.now) (map listed_seen made.items)) }
 {
     let listed = listed_of(alloc, rows, way)?;
@@ -41,7 +41,7 @@ pub fn count_amiss(alloc: Global, rows: &[Row], way: Disorder) -> Result<usize, 
 }
 
 // Of dangling entries they themselves are counted, otherwise their keys.
-fn how_many(listed: &[Listed], way: Disorder) -> usize
+fn how_many(listed: &[ListedEntry], way: Disorder) -> usize
     ensures { (rs : List OneRow) → AreAmiss way rs (map listed_seen listed.now) → result ≡ how_many way (map listed_seen listed.now) }
 {
     match way {

@@ -8,7 +8,7 @@ ghost use Rattle.reg_disorder.specs.Disorders.{IsWithdrawn};
 ghost use Rattle.reg_disorder.specs.Keys.{PutsKey, PutsRowKey, HasLiveKeys};
 ghost use Rattle.reg_disorder.specs.Lists.{listed_seen, AreOf};
 
-use crate::listed::{Listed, push_where};
+use crate::listed::{ListedEntry, push_where};
 use crate::standing::is_retired;
 use reg_report::{KeyText, Row, key_of};
 use std::alloc::{AllocError, Global};
@@ -52,7 +52,7 @@ fn is_withdrawn<'a>(live: &BTreeSet<KeyText<'a>>, row: &'a Row) -> bool
 }
 
 /// The entries of keys whose entries are all retired.
-pub fn withdrawn(alloc: Global, rows: &[Row]) -> Result<Vec<Listed>, AllocError>
+pub fn withdrawn(alloc: Global, rows: &[Row]) -> Result<Vec<ListedEntry>, AllocError>
     ensures { IfOk result (λ made. AreOf (IsWithdrawn (map row_seen rows.now)) (map row_seen rows.now) (map listed_seen made.items)) }
 {
     let live = live_keys(alloc, rows)?;

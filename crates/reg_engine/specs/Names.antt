@@ -5,7 +5,7 @@ use Rattle.wkt_crs.specs.Unspelled.{name_of, place_of}
 use Rattle.reg_op.specs.Ids.{Id}
 use Rattle.reg_file.specs.Names.{file_name}
 use Rattle.reg_office.specs.Names.{office_name, office_id}
-use Rattle.byte_office.specs.declared.fault.NoteFault.TheVariants as note
+use Rattle.byte_office.specs.declared.fault.OfficeFileFault.TheVariants as note
 use Rattle.reg_engine.specs.declared.fault.Refusal.{Refusal}
 use Rattle.reg_engine.specs.declared.fault.Refusal.TheVariants as refusal
 use Rattle.reg_engine.specs.declared.fault.InputFault.{InputFault}

@@ -3,7 +3,7 @@
 ghost use Rattle.std.specs.Prelude.{◌≡◌};
 ghost use Rattle.reg_engine.specs.Fault.{status_of, is_after};
 
-use byte_office::NoteFault;
+use byte_office::OfficeFileFault;
 use reg_file::FileFault;
 use reg_office::OfficeFault;
 use reg_op::OpId;
@@ -305,7 +305,7 @@ pub enum CliFault {
     Shelf(ShelfProblem),
     /// The office file was not replaced, or a power cut may undo that. The register is unchanged.
     #[error("office: {0}")]
-    Office(NoteFault),
+    Office(OfficeFileFault),
 }
 
 impl CliFault {
@@ -321,9 +321,9 @@ impl CliFault {
             CliFault::Out(fault) => fault.name(),
             CliFault::Memory => "Memory",
             CliFault::Shelf(problem) => problem.name(),
-            CliFault::Office(NoteFault::NotOpened) => "NotOpened",
-            CliFault::Office(NoteFault::TooLarge) => "TooLarge",
-            CliFault::Office(NoteFault::WriteFailed(_)) => "WriteFailed",
+            CliFault::Office(OfficeFileFault::NotOpened) => "NotOpened",
+            CliFault::Office(OfficeFileFault::TooLarge) => "TooLarge",
+            CliFault::Office(OfficeFileFault::WriteFailed(_)) => "WriteFailed",
         }
     }
 
@@ -335,7 +335,7 @@ impl CliFault {
             CliFault::Refused(refusal) => refusal.place(),
             CliFault::File { fault, .. } => fault.place(),
             CliFault::Out(fault) => fault.place(),
-            CliFault::Office(NoteFault::WriteFailed(place)) => Some(place),
+            CliFault::Office(OfficeFileFault::WriteFailed(place)) => Some(place),
             _ => None,
         }
     }

@@ -6,8 +6,8 @@ ghost use Rattle.byte_out.specs.Replace.{Replaces};
 ghost use Rattle.reg_engine.specs.Outputs.{IsUnpublishedOf, PublishesFile, IsUnpublished, id_lines};
 
 use crate::fault::{CliFault, OutFault};
-use byte_out::{Place, replace};
-use reg_file::{WriteFileFault, write_bytes};
+use byte_out::{Chunks, Place, replace, replace_with};
+use reg_file::{RegisterChunks, WriteFileFault};
 use reg_op::OpId;
 use reg_state::Register;
 use std::alloc::{AllocError, Global};
@@ -27,8 +27,23 @@ pub(crate) fn publish_bytes<P: Place>(
     }
 }
 
-/// Makes the file in memory, then replaces the output, unless the output was read and has changed since. On any failure
-/// except that of the last sync the old file is kept.
+// The same, with bytes that come in chunks.
+fn publish_chunks<C: Chunks, P: Place>(
+    content: &mut C,
+    read: Option<&[u8]>,
+    place: &mut P,
+) -> Result<(), CliFault>
+    ensures published { OnOk result (Replaces (option_map (λ s. s.now) read.entry) (C.bytes content.old) (P.state place.old) (P.state place.new)) }
+    ensures fault { IfErr result (IsUnpublishedOf (option_map (λ s. s.now) read.entry) (C.bytes content.old) (P.state place.old) (P.state place.new)) }
+{
+    match replace_with(place, read, content) {
+        Ok(()) => Ok(()),
+        Err(fault) => Err(CliFault::of_replace(fault)),
+    }
+}
+
+/// Replaces the output by the register's file, unless the output was read and has changed since. On any failure except that of the
+/// last sync the old file is kept. Only some operations of the file are in memory at once.
 pub fn publish_register<P: Place>(
     alloc: Global,
     register: &Register,
@@ -38,8 +53,8 @@ pub fn publish_register<P: Place>(
     ensures published { OnOk result (PublishesFile register.now (option_map (λ s. s.now) read.entry) (P.state place.old) (P.state place.new)) }
     ensures fault { IfErr result (IsUnpublished register.now (option_map (λ s. s.now) read.entry) (P.state place.old) (P.state place.new)) }
 {
-    match write_bytes(alloc, register) {
-        Ok(bytes) => publish_bytes(&bytes, read, place),
+    match RegisterChunks::new(alloc, register) {
+        Ok(mut chunks) => publish_chunks(&mut chunks, read, place),
         Err(WriteFileFault::TooLarge) => Err(CliFault::Out(OutFault::TooLarge)),
         Err(_) => Err(CliFault::Memory),
     }

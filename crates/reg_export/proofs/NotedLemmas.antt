@@ -14,12 +14,12 @@ use Rattle.reg_report.proofs.ConflictLemmas.{none_in, in_cons, in_head}
 use Rattle.reg_report.proofs.ContenderLemmas.{one_key}
 use Rattle.reg_report.specs.declared.key.KeyText.{KeyText}
 use Rattle.reg_report.specs.Keys.{text_cmp}
-use Rattle.reg_export.specs.declared.notes.Note.{Note}
+use Rattle.reg_export.specs.declared.notes.TextOfKey.{TextOfKey}
 use Rattle.reg_export.specs.Chosen.{IsContested}
 use Rattle.reg_export.specs.Noted.{Noted, At, noted, has_several, Holds, with_text, with_note, HasOthers, Tells}
 use Rattle.reg_export.proofs.TextLemmas.{same_bytes, other_bytes, same_key, key_itself}
 
-pub nothing_held : (m : BTreeMap KeyText Note) → m.entries ≡ [] → Holds m (λ _. None)
+pub nothing_held : (m : BTreeMap KeyText TextOfKey) → m.entries ≡ [] → Holds m (λ _. None)
 nothing_held m e q = ap (λ l. noted (lookup (λ k. is_eq (text_cmp q k)) l)) e
 
 pub nothing_told : (k : KeyBytes) → Tells [] k None

@@ -14,12 +14,12 @@ use Rattle.std.proofs.lemmas.Cmp.{nat_list_cmp_total, tied_itself}
 use Rattle.std.proofs.lemmas.List.Elements.{Contains-append_cases, Contains-append_left, Contains-append_right}
 use Rattle.std.proofs.lemmas.Map.Lookups.{exact_bytes}
 use Rattle.std.proofs.lemmas.Slice.Eq.{bytes_eq-Decides}
-use Rattle.reg_export.specs.declared.twins.Note.{Note}
+use Rattle.reg_export.specs.declared.twins.NameTwin.{NameTwin}
 use Rattle.reg_export.specs.KeyFiles.{KeyedText, plain_name, lower, differ_by_case, has_twin}
 use Rattle.reg_export.specs.Twins.{vec_cmp, Noted, At, noted, has_several, Holds, with_name, with_note, HasOthers, Tells}
 use Rattle.reg_export.proofs.SortLemmas.{none_in, in_cons, in_head, in_map, from_map}
 
-pub nothing_held : (m : BTreeMap (Vec ℕ) Note) → m.entries ≡ [] → Holds m (λ _. None)
+pub nothing_held : (m : BTreeMap (Vec ℕ) NameTwin) → m.entries ≡ [] → Holds m (λ _. None)
 nothing_held m e q = ap (λ l. noted (lookup (λ k. is_eq (vec_cmp q k)) l)) e
 
 pub nothing_told : (k : List ℕ) → Tells [] k None

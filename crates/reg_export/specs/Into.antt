@@ -10,7 +10,7 @@ use Rattle.reg_engine.specs.declared.fault.CliFault.TheVariants as cli
 use Rattle.reg_engine.specs.Store.{Around}
 use Rattle.reg_export.specs.declared.choice.Choice.{Choice}
 use Rattle.reg_export.specs.Stopped.{CannotHand}
-use Rattle.reg_export.specs.declared.into_rows.LeftOut.{LeftOut}
+use Rattle.reg_export.specs.declared.into_rows.LeftOutOfFolder.{LeftOutOfFolder}
 use Rattle.reg_export.specs.IntoFiles.{HandsFiles}
 
 -- a register was read, and a folder with its files is in place
@@ -36,4 +36,4 @@ IsNotOut fs old new (cli.Office t) = ⊥
 abbrev pub IsNotPutInto : Around → Choice → Bool → FolderState → FolderState → CliFault → Type 0
 IsNotPutInto a c keep_going old new f = (a.none f × (new ≡ old))
     ⊎ ((x : Content) × a.came x
-    × ((CannotHand c keep_going x f × (new ≡ old)) ⊎ ((left : LeftOut) × (fs : List File) × HandsFiles c keep_going left x fs × IsNotOut fs old new f)))
+    × ((CannotHand c keep_going x f × (new ≡ old)) ⊎ ((left : LeftOutOfFolder) × (fs : List File) × HandsFiles c keep_going left x fs × IsNotOut fs old new f)))

@@ -11,7 +11,7 @@ use Rattle.reg_report.specs.Conflicts.{HasKey}
 use Rattle.reg_export.specs.declared.choice.Choice.{Choice}
 use Rattle.reg_export.specs.Choice.{asked}
 use Rattle.reg_export.specs.Chosen.{AreChosen}
-use Rattle.reg_export.specs.declared.into_rows.LeftOut.{LeftOut}
+use Rattle.reg_export.specs.declared.into_rows.LeftOutOfFolder.{LeftOutOfFolder}
 
 -- the text of the row, and its key
 abbrev pub IsKeyedOf : Row → KeyedText → Type 0
@@ -47,12 +47,12 @@ AreFilesOfRows keep_going rs long fs = (ts : List KeyedText) × AllZip IsKeyedOf
 
 -- the files of the rows whose keys have one text. Only with `keep_going` may there be others, and the least entry of the least
 -- such key is named
-pub record AreHanded (keep_going : Bool) (found : List Row) (left : LeftOut) (fs : List File) : Type 0 where
+pub record AreHanded (keep_going : Bool) (found : List Row) (left : LeftOutOfFolder) (fs : List File) : Type 0 where
   pub kept : List Row
   pub chosen : AreChosen found kept left.taken
   pub all : keep_going ≡ false → left.taken ≡ None
   pub are : AreFilesOfRows keep_going kept left.long fs
 
 -- the same of the chosen entries of a content
-abbrev pub HandsFiles : Choice → Bool → LeftOut → Content → List File → Type 0
+abbrev pub HandsFiles : Choice → Bool → LeftOutOfFolder → Content → List File → Type 0
 HandsFiles c keep_going left x fs = (found : List Row) × AreFoundIn x (asked c) found × AreHanded keep_going found left fs

@@ -7,16 +7,16 @@ use Rattle.reg_op.specs.Rows.{Row}
 use Rattle.reg_report.specs.declared.row.Row.{Row as MadeRow}
 use Rattle.reg_report.specs.Keys.{key_bytes}
 use Rattle.reg_report.specs.Seen.{row_seen}
-use Rattle.reg_export.specs.declared.chosen.Held.{Held}
+use Rattle.reg_export.specs.declared.chosen.KeyedRow.{KeyedRow}
 use Rattle.reg_export.specs.Chosen.{KeyThenEntry, place_cmp}
 
 abbrev pub row_at : Bor MadeRow → Row
 row_at r = row_seen r.now
 
-abbrev pub place_of : Held → KeyThenEntry
+abbrev pub place_of : KeyedRow → KeyThenEntry
 place_of h = record { key = key_bytes h.key; entry = (row_at h.row).entry }
 
-abbrev pub option_place : Option Held → Option KeyThenEntry
+abbrev pub option_place : Option KeyedRow → Option KeyThenEntry
 option_place None = None
 option_place (Some h) = Some (place_of h)
 

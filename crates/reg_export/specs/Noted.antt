@@ -8,7 +8,7 @@ use Rattle.reg_op.specs.Rows.{Row}
 use Rattle.reg_report.specs.Conflicts.{KeyBytes, key_cmp, HasKey}
 use Rattle.reg_report.specs.declared.key.KeyText.{KeyText}
 use Rattle.reg_report.specs.Keys.{key_bytes, text_cmp}
-use Rattle.reg_export.specs.declared.notes.Note.{Note}
+use Rattle.reg_export.specs.declared.notes.TextOfKey.{TextOfKey}
 
 -- a text of a key, and whether the key has another one
 pub record Noted : Type 0 where
@@ -19,11 +19,11 @@ pub record Noted : Type 0 where
 abbrev pub At : Type 0
 At = KeyBytes → Option Noted
 
-abbrev pub noted : Option Note → Option Noted
+abbrev pub noted : Option TextOfKey → Option Noted
 noted None = None
 noted (Some n) = Some (record { text = n.text.now; several = n.several })
 
-abbrev pub noted_behind : Option (Bor Note) → Option Noted
+abbrev pub noted_behind : Option (Bor TextOfKey) → Option Noted
 noted_behind None = None
 noted_behind (Some n) = Some (record { text = n.now.text.now; several = n.now.several })
 
@@ -33,7 +33,7 @@ has_several None = false
 has_several (Some n) = n.several
 
 -- the map has these notes
-abbrev pub Holds : BTreeMap KeyText Note → At → Type 0
+abbrev pub Holds : BTreeMap KeyText TextOfKey → At → Type 0
 Holds m at = (q : KeyText) → noted (get text_cmp m q) ≡ at (key_bytes q)
 
 -- the note of a key, after another of its texts was read

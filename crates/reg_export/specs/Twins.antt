@@ -7,7 +7,7 @@ use Rattle.std.specs.Global.{Vec}
 use Rattle.std.specs.Ordering.{nat_cmp, is_eq}
 use Rattle.std.specs.declared.cmp.Ordering.{Ordering}
 use Rattle.byte_folder.specs.Folder.{File}
-use Rattle.reg_export.specs.declared.twins.Note.{Note}
+use Rattle.reg_export.specs.declared.twins.NameTwin.{NameTwin}
 use Rattle.reg_export.specs.KeyFiles.{KeyedText, plain_name, lower, capitals_if, file_with}
 
 -- a name, and whether another one differs from it by case alone
@@ -19,11 +19,11 @@ pub record Noted : Type 0 where
 abbrev pub At : Type 0
 At = List ℕ → Option Noted
 
-abbrev pub noted : Option Note → Option Noted
+abbrev pub noted : Option NameTwin → Option Noted
 noted None = None
 noted (Some n) = Some (record { name = n.name.now; several = n.several })
 
-abbrev pub noted_behind : Option (Bor Note) → Option Noted
+abbrev pub noted_behind : Option (Bor NameTwin) → Option Noted
 noted_behind None = None
 noted_behind (Some n) = Some (record { name = n.now.name.now; several = n.now.several })
 
@@ -35,7 +35,7 @@ abbrev pub vec_cmp : Vec ℕ → Vec ℕ → Ordering
 vec_cmp a b = slice_cmp nat_cmp a.items b.items
 
 -- the map has these notes
-abbrev pub Holds : BTreeMap (Vec ℕ) Note → At → Type 0
+abbrev pub Holds : BTreeMap (Vec ℕ) NameTwin → At → Type 0
 Holds m at = (q : Vec ℕ) → noted (get vec_cmp m q) ≡ at q.items
 
 -- the note after one more name

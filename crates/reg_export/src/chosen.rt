@@ -22,12 +22,12 @@ pub struct Chosen<'a> {
 
 // A row with its key.
 #[derive(Clone, Copy)]
-struct Held<'a> {
+struct KeyedRow<'a> {
     key: KeyText<'a>,
     row: &'a Row,
 }
 
-fn is_less(one: &Held<'_>, other: &Held<'_>) -> bool
+fn is_less(one: &KeyedRow<'_>, other: &KeyedRow<'_>) -> bool
     ensures { result ≡ is_lt (place_cmp (place_of one.now) (place_of other.now)) }
 {
     one.key
@@ -37,7 +37,7 @@ fn is_less(one: &Held<'_>, other: &Held<'_>) -> bool
 }
 
 // The lesser of the two.
-fn lesser<'a>(least: Option<Held<'a>>, held: Held<'a>) -> Held<'a>
+fn lesser<'a>(least: Option<KeyedRow<'a>>, held: KeyedRow<'a>) -> KeyedRow<'a>
     ensures { place_of result ≡ lesser (option_place least.entry) (place_of held.entry) }
 {
     match least {
@@ -47,7 +47,11 @@ fn lesser<'a>(least: Option<Held<'a>>, held: Held<'a>) -> Held<'a>
 }
 
 // The least one, after a row that may be contested.
-fn least_with<'a>(contested: bool, least: Option<Held<'a>>, held: Held<'a>) -> Option<Held<'a>>
+fn least_with<'a>(
+    contested: bool,
+    least: Option<KeyedRow<'a>>,
+    held: KeyedRow<'a>,
+) -> Option<KeyedRow<'a>>
     ensures { option_place result ≡ least_with contested (option_place least.entry) (place_of held.entry) }
 {
     if contested {
@@ -67,7 +71,7 @@ fn push_unless<'a>(contested: bool, kept: &mut Vec<&'a Row>, row: &'a Row) -> Re
     Ok(())
 }
 
-fn entry_of(least: Option<Held<'_>>) -> Option<OpId>
+fn entry_of(least: Option<KeyedRow<'_>>) -> Option<OpId>
     ensures { result ≡ option_entry (option_place least.entry) }
 {
     match least {
@@ -87,7 +91,7 @@ pub fn uncontested<'a>(alloc: Global, rows: &'a [Row]) -> Result<Chosen<'a>, All
     while let Some((row, others)) = rest.split_first() {
         let key = key_of(row);
         let contested = is_contested(&notes, &key);
-        least = least_with(contested, least, Held { key, row });
+        least = least_with(contested, least, KeyedRow { key, row });
         push_unless(contested, &mut kept, row)?;
         rest = others;
     }

@@ -7,7 +7,7 @@ ghost use Rattle.reg_export.specs.KeyFiles.{keyed, plain_name, lower, capitals_i
 ghost use Rattle.reg_export.specs.Twins.{At, Holds, has_several, file_at};
 
 use crate::naming::{Capitals, file_name};
-use crate::twins::{Note, has_several, notes_of};
+use crate::twins::{NameTwin, has_several, notes_of};
 use byte_folder::NamedFile;
 use std::alloc::{AllocError, Global};
 use std::collections::BTreeMap;
@@ -54,7 +54,7 @@ fn capitals_if(twin: bool) -> Capitals
 // The capitals of a text's name are escaped if another name differs from it by case alone.
 fn capitals_of(
     alloc: Global,
-    notes: &BTreeMap<Vec<u8>, Note<'_>>,
+    notes: &BTreeMap<Vec<u8>, NameTwin<'_>>,
     text: &Keyed<'_>,
 ) -> Result<Capitals, AllocError>
     ensures { (at : At) → Holds notes.now at → IfOk result (λ capitals. capitals ≡ capitals_if (has_several (at (lower (plain_name (keyed text.now)))))) }
@@ -77,7 +77,7 @@ fn file_with(alloc: Global, capitals: Capitals, text: &Keyed<'_>) -> Result<Name
 
 fn file_by(
     alloc: Global,
-    notes: &BTreeMap<Vec<u8>, Note<'_>>,
+    notes: &BTreeMap<Vec<u8>, NameTwin<'_>>,
     text: &Keyed<'_>,
 ) -> Result<NamedFile, AllocError>
     ensures { (at : At) → Holds notes.now at → IfOk result (λ file. seen file ≡ file_at at (keyed text.now)) }
@@ -89,7 +89,7 @@ fn file_by(
 // A file for each text.
 fn files_by(
     alloc: Global,
-    notes: &BTreeMap<Vec<u8>, Note<'_>>,
+    notes: &BTreeMap<Vec<u8>, NameTwin<'_>>,
     texts: &[Keyed<'_>],
 ) -> Result<Vec<NamedFile>, AllocError>
     ensures { (at : At) → Holds notes.now at → IfOk result (λ files. map seen files.items ≡ map (file_at at) (map keyed texts.now)) }

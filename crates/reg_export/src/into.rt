@@ -8,7 +8,7 @@ ghost use Rattle.reg_export.specs.IntoFiles.{HandsFiles};
 ghost use Rattle.reg_export.specs.Into.{IsPutInto, IsNotPutInto, IsNotOut};
 
 use crate::choice::{Choice, found_for};
-use crate::into_rows::{Handed, LeftOut, files_of_found};
+use crate::into_rows::{Handed, LeftOutOfFolder, files_of_found};
 use byte_folder::{FolderFault, FolderPlace, NamedFile, put_folder};
 use reg_engine::{CliFault, OutFault, Store};
 use reg_state::Register;
@@ -54,7 +54,7 @@ pub fn run_into<T: Store, F: FolderPlace>(
     choice: &Choice<'_>,
     keep_going: bool,
     place: &mut F,
-) -> Result<LeftOut, CliFault>
+) -> Result<LeftOutOfFolder, CliFault>
     ensures same { T.same store.old store.new }
     ensures put { IfOk result (λ left. IsPutInto (T.around store.old store.new) (HandsFiles choice.now keep_going left) (F.state place.old) (F.state place.new)) }
     ensures fault { IfErr result (IsNotPutInto (T.around store.old store.new) choice.now keep_going (F.state place.old) (F.state place.new)) }

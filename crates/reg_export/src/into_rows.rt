@@ -20,7 +20,7 @@ use std::alloc::{AllocError, Global};
 
 /// What was left out of a folder.
 #[derive(Clone, Copy, Debug, PartialEq, Eq)]
-pub struct LeftOut {
+pub struct LeftOutOfFolder {
     /// The least entry of the least key with two texts, if there are such keys.
     pub taken: Option<OpId>,
     /// The least of the other entries whose files would have names that are too long.
@@ -32,7 +32,7 @@ pub struct LeftOut {
 pub struct Handed {
     /// A file for each key, in the order of their names.
     pub files: Vec<NamedFile>,
-    pub left: LeftOut,
+    pub left: LeftOutOfFolder,
 }
 
 // The files of rows, and the first entry that has none because of its name.
@@ -153,7 +153,7 @@ pub fn files_of_found(alloc: Global, found: &[Row], keep_going: bool) -> Result<
     }
     match files_of_rows(alloc, &chosen.rows, keep_going) {
         Ok(made) => {
-            let left = LeftOut {
+            let left = LeftOutOfFolder {
                 taken: chosen.taken,
                 long: made.long,
             };

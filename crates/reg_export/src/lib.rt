@@ -24,6 +24,6 @@ pub use chosen::{Chosen, uncontested};
 pub use files::{Keyed, each_file, fitting, in_order, is_long};
 pub use formats::{Format, Graph, run_handed};
 pub use into::run_into;
-pub use into_rows::{Handed, LeftOut, files_of_found};
+pub use into_rows::{Handed, LeftOutOfFolder, files_of_found};
 pub use keep::pass;
 pub use naming::{Capitals, EXTENSION, file_name};

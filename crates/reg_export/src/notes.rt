@@ -12,21 +12,21 @@ use std::collections::BTreeMap;
 
 /// A text of a key, and whether another row has the key with another text.
 #[derive(Clone, Copy)]
-pub struct Note<'a> {
+pub struct TextOfKey<'a> {
     pub text: &'a [u8],
     pub several: bool,
 }
 
 // The note of a key after one more text of it.
-fn with_text<'a>(before: Option<&Note<'a>>, text: &'a [u8]) -> Note<'a>
+fn with_text<'a>(before: Option<&TextOfKey<'a>>, text: &'a [u8]) -> TextOfKey<'a>
     ensures { noted (Some result) ≡ Some (with_text text.now (noted_behind before.entry)) }
 {
     match before {
-        Some(note) => Note {
+        Some(note) => TextOfKey {
             text: note.text,
             several: note.several || note.text != text,
         },
-        None => Note {
+        None => TextOfKey {
             text,
             several: false,
         },
@@ -35,7 +35,7 @@ fn with_text<'a>(before: Option<&Note<'a>>, text: &'a [u8]) -> Note<'a>
 
 // Notes the text of a row under its key.
 fn put_text<'a>(
-    notes: &mut BTreeMap<KeyText<'a>, Note<'a>>,
+    notes: &mut BTreeMap<KeyText<'a>, TextOfKey<'a>>,
     key: KeyText<'a>,
     text: &'a [u8],
 ) -> Result<(), AllocError>
@@ -50,7 +50,7 @@ fn put_text<'a>(
 pub fn notes_of<'a>(
     alloc: Global,
     rows: &'a [Row],
-) -> Result<BTreeMap<KeyText<'a>, Note<'a>>, AllocError>
+) -> Result<BTreeMap<KeyText<'a>, TextOfKey<'a>>, AllocError>
     ensures { IfOk result (λ made. (at : At) × Holds made at × ((k : KeyBytes) → Tells (map row_seen rows.now) k (at k))) }
 {
     let mut made = BTreeMap::new(alloc);
@@ -63,7 +63,7 @@ pub fn notes_of<'a>(
 }
 
 /// Whether the key has several texts.
-pub fn is_contested<'a>(notes: &BTreeMap<KeyText<'a>, Note<'a>>, key: &KeyText<'a>) -> bool
+pub fn is_contested<'a>(notes: &BTreeMap<KeyText<'a>, TextOfKey<'a>>, key: &KeyText<'a>) -> bool
     ensures { (at : At) → Holds notes.now at → result ≡ has_several (at (key_bytes key.now)) }
 {
     match notes.get(key) {

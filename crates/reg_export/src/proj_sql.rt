@@ -8,20 +8,20 @@ ghost use Rattle.reg_export.specs.ProjSql.{passes_over, IsTaken, IsFiled, FilesA
 ghost use Rattle.reg_export.specs.Kept.{row_at};
 
 use crate::title::title_of;
-use crs_export::{Filed, Keyed, Table, number_of, rows_of, sql_text, table_of};
+use crs_export::{EntryText, Filed, Table, number_of, rows_of, sql_text, table_of};
 use crs_part::same_word;
 use reg_report::{Row, printed};
 use std::alloc::{AllocError, Global};
 
 // What PROJ's tables take of a reference system.
 #[derive(Drop)]
-struct Taken {
+struct TakenRows {
     table: Option<Table>,
     rows: Vec<u8>,
 }
 
 // What they take of a row's reference system. The printed id is given.
-fn taken_of(alloc: Global, row: &Row, entry: &[u8]) -> Result<Taken, AllocError>
+fn taken_of(alloc: Global, row: &Row, entry: &[u8]) -> Result<TakenRows, AllocError>
     requires { entry.now ≡ printed row.now.entry }
     ensures { IfOk result (λ taken. IsTaken (row_seen row.now) taken.table taken.rows.items) }
 {
@@ -29,7 +29,7 @@ fn taken_of(alloc: Global, row: &Row, entry: &[u8]) -> Result<Taken, AllocError>
     let crs = row.definition.crs(alloc)?;
     let rows = rows_of(alloc, &title, crs.parts())?;
     let table = table_of(crs.parts());
-    Ok(Taken { table, rows })
+    Ok(TakenRows { table, rows })
 }
 
 fn filed_of<'a>(alloc: Global, row: &'a Row) -> Result<Filed<'a>, AllocError>
@@ -37,7 +37,7 @@ fn filed_of<'a>(alloc: Global, row: &'a Row) -> Result<Filed<'a>, AllocError>
 {
     let entry = printed(alloc, row.entry)?;
     let taken = taken_of(alloc, row, &entry)?;
-    let Taken { table, rows } = taken;
+    let TakenRows { table, rows } = taken;
     let key = row.definition.key();
     let name = row.definition.name();
     let code = key.code.as_bytes();
@@ -46,7 +46,7 @@ fn filed_of<'a>(alloc: Global, row: &'a Row) -> Result<Filed<'a>, AllocError>
         name: name.as_bytes(),
         table,
         rows,
-        keyed: Keyed {
+        keyed: EntryText {
             authority: key.authority.as_bytes(),
             code,
             text: row.definition.as_bytes(),

@@ -9,21 +9,21 @@ use std::collections::BTreeMap;
 
 /// A name, and whether another one differs from it by case alone.
 #[derive(Clone, Copy)]
-pub struct Note<'a> {
+pub struct NameTwin<'a> {
     pub name: &'a [u8],
     pub several: bool,
 }
 
 // The note of a name in small letters after one more name.
-fn with_name<'a>(before: Option<&Note<'a>>, name: &'a [u8]) -> Note<'a>
+fn with_name<'a>(before: Option<&NameTwin<'a>>, name: &'a [u8]) -> NameTwin<'a>
     ensures { noted (Some result) ≡ Some (with_name name.now (noted_behind before.entry)) }
 {
     match before {
-        Some(note) => Note {
+        Some(note) => NameTwin {
             name: note.name,
             several: note.several || note.name != name,
         },
-        None => Note {
+        None => NameTwin {
             name,
             several: false,
         },
@@ -32,7 +32,7 @@ fn with_name<'a>(before: Option<&Note<'a>>, name: &'a [u8]) -> Note<'a>
 
 // Notes a name under its small letters.
 fn put_name<'a>(
-    notes: &mut BTreeMap<Vec<u8>, Note<'a>>,
+    notes: &mut BTreeMap<Vec<u8>, NameTwin<'a>>,
     low: Vec<u8>,
     name: &'a [u8],
 ) -> Result<(), AllocError>
@@ -47,7 +47,7 @@ fn put_name<'a>(
 pub fn notes_of<'a>(
     alloc: Global,
     names: &'a [Vec<u8>],
-) -> Result<BTreeMap<Vec<u8>, Note<'a>>, AllocError>
+) -> Result<BTreeMap<Vec<u8>, NameTwin<'a>>, AllocError>
     ensures { IfOk result (λ made. (at : At) × Holds made at × ((k : List ℕ) → Tells (map (λ (n : Vec ℕ). n.items) names.now) k (at k))) }
 {
     let mut made = BTreeMap::new(alloc);
@@ -61,7 +61,7 @@ pub fn notes_of<'a>(
 }
 
 /// Whether several names have these small letters.
-pub fn has_several<'a>(notes: &BTreeMap<Vec<u8>, Note<'a>>, low: &Vec<u8>) -> bool
+pub fn has_several<'a>(notes: &BTreeMap<Vec<u8>, NameTwin<'a>>, low: &Vec<u8>) -> bool
     ensures { (at : At) → Holds notes.now at → result ≡ has_several (at low.now.items) }
 {
     match notes.get(low) {

@@ -1,5 +1,6 @@
 pub mod ApartLemmas
 pub mod BodyLemmas
+pub mod ChunkLemmas
 pub mod DefinitionLemmas
 pub mod ExactLemmas
 pub mod FieldLemmas

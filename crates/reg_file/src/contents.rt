@@ -13,6 +13,7 @@ use crate::fields::{number_of, refused};
 use crate::op_offset::OpOffset;
 use crate::operations::{left_of, ops_of};
 use crate::ranges::seen_of;
+use bytes::Bytes;
 use reg_op::Op;
 use reg_state::{ContentFault, Register, Seen};
 use std::alloc::Global;
@@ -20,6 +21,7 @@ use std::alloc::Global;
 /// The seen ids, none of them in the basis, and the operations with their places.
 pub fn seen_and_ops_of<'a>(
     alloc: Global,
+    block: &Bytes,
     known: &[Register],
     version: u8,
     basis: &Seen,
@@ -36,7 +38,7 @@ pub fn seen_and_ops_of<'a>(
         Ok(read) => read,
         Err(stop) => return Err(stop),
     };
-    let (ops, places, rest) = match ops_of(alloc, known, version, &seen, count, rest) {
+    let (ops, places, rest) = match ops_of(alloc, block, known, version, &seen, count, rest) {
         Ok(read) => read,
         Err(stop) => return Err(stop),
     };
@@ -80,6 +82,7 @@ fn register_of(
 /// The register of the seen ids, none of them in the basis, and of the operations. Nothing follows.
 pub fn kept_of(
     alloc: Global,
+    block: &Bytes,
     known: &[Register],
     version: u8,
     basis: &Seen,
@@ -88,7 +91,9 @@ pub fn kept_of(
     ensures ok { IfOk result (λ r. ReadsKept version basis.now bytes.now r) }
     ensures err { IfErr result (StopsIn (seen_and_kept version basis.now) bytes.now) }
 {
-    let (ops, places, seen, rest) = match seen_and_ops_of(alloc, known, version, basis, bytes) {
+    let (ops, places, seen, rest) = match seen_and_ops_of(
+        alloc, block, known, version, basis, bytes,
+    ) {
         Ok(read) => read,
         Err(stop) => return Err(stop),
     };

@@ -44,7 +44,8 @@ fn size_of_body(body: &OpBody) -> usize
     }
 }
 
-fn size_of(version: u8, op: &Op) -> usize
+/// The length of an operation in a version.
+pub fn size_of(version: u8, op: &Op) -> usize
     ensures value { result ≡ length (op_bytes version op.now) }
     ensures bound { result ≤ 65762 }
 {

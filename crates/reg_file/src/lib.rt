@@ -1,6 +1,8 @@
 //! Files of registers, summaries and pieces, read exactly; other bytes have a first fault, with its place.
 #![tactic(auto)]
 
+mod block;
+mod chunks;
 mod contents;
 mod fault;
 mod fields;
@@ -19,6 +21,7 @@ mod spelling;
 mod summaries;
 mod writing;
 
+pub use chunks::RegisterChunks;
 pub use fault::{FileFault, FirstFileFault, ReadFileFault, WriteFileFault};
 pub use first::{write_first_bytes, write_first_register};
 pub use heads::MAX_FILE;

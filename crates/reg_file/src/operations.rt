@@ -9,6 +9,7 @@ ghost use Rattle.reg_file.specs.Steps.{StopsInText, StopsAs};
 use crate::fault::{FileFault, Stop};
 use crate::fields::{heading_of, id_of, pair_of, refused, text_of};
 use crate::op_offset::OpOffset;
+use bytes::Bytes;
 use reg_op::{Definition, DefinitionFault, Op, OpBody, OpId, SameEntry};
 use reg_state::{Register, Seen};
 use std::alloc::Global;
@@ -29,11 +30,14 @@ fn known_as(alloc: Global, known: Option<&Definition>, text: &[u8]) -> Option<De
     }
 }
 
+// The definition with this text, which stands in the block with `behind` bytes after it if the block is not empty.
 fn definition_of(
     alloc: Global,
+    block: &Bytes,
     known: Option<&Definition>,
     text: &[u8],
     left: usize,
+    behind: usize,
 ) -> Result<Definition, Stop>
     ensures ok { IfOk result (λ d. d ≡ text.now) }
     ensures err { IfErr result (StopsInText text.now left) }
@@ -41,7 +45,7 @@ fn definition_of(
     if let Some(definition) = known_as(alloc, known, text) {
         return Ok(definition);
     }
-    match Definition::from_canonical(alloc, text) {
+    match Definition::from_block(alloc, block, text, behind) {
         Ok(definition) => Ok(definition),
         Err(DefinitionFault::Memory) => Err(Stop::Memory),
         Err(DefinitionFault::NotCanonical) => Err(refused(FileFault::NotCanonical, left)),
@@ -51,6 +55,7 @@ fn definition_of(
 
 fn enter_of<'a>(
     alloc: Global,
+    block: &Bytes,
     known: Option<&Definition>,
     bytes: &'a [u8],
 ) -> Result<(OpBody, &'a [u8]), Stop>
@@ -61,7 +66,7 @@ fn enter_of<'a>(
         Ok(read) => read,
         Err(stop) => return Err(stop),
     };
-    match definition_of(alloc, known, text, bytes.len()) {
+    match definition_of(alloc, block, known, text, bytes.len(), rest.len()) {
         Ok(definition) => Ok((OpBody::Enter(definition), rest)),
         Err(stop) => Err(stop),
     }
@@ -92,6 +97,7 @@ fn retire_of(bytes: &[u8]) -> Result<(OpBody, &[u8]), Stop>
 
 fn body_of<'a>(
     alloc: Global,
+    block: &Bytes,
     known: Option<&Definition>,
     kind: u8,
     bytes: &'a [u8],
@@ -101,7 +107,7 @@ fn body_of<'a>(
     ensures err { IfErr result (StopsAs (length bytes.now) (body_at kind bytes.now)) }
 {
     if kind == 1 {
-        return enter_of(alloc, known, bytes);
+        return enter_of(alloc, block, known, bytes);
     }
     if kind == 2 {
         return supersede_of(bytes);
@@ -116,6 +122,7 @@ fn entered_in(known: &[Register], id: OpId) -> Option<&Definition> {
 
 fn op_of<'a>(
     alloc: Global,
+    block: &Bytes,
     known: &[Register],
     version: u8,
     last: Option<OpId>,
@@ -130,7 +137,7 @@ fn op_of<'a>(
         Err(stop) => return Err(stop),
     };
     let ((id, kind), note) = heading;
-    let (body, rest) = match body_of(alloc, entered_in(known, id), kind, rest) {
+    let (body, rest) = match body_of(alloc, block, entered_in(known, id), kind, rest) {
         Ok(read) => read,
         Err(stop) => return Err(stop),
     };
@@ -143,9 +150,10 @@ fn op_of<'a>(
     }
 }
 
-/// This many operations in ascending order, and their places.
+/// This many operations in ascending order, and their places. Texts are parts of the block if it ends with these bytes.
 pub fn ops_of<'a>(
     alloc: Global,
+    block: &Bytes,
     known: &[Register],
     version: u8,
     seen: &Seen,
@@ -160,7 +168,7 @@ pub fn ops_of<'a>(
     let mut last = None;
     let mut rest = bytes;
     for _ in 0..count {
-        let (op, after) = match op_of(alloc, known, version, last, seen, rest) {
+        let (op, after) = match op_of(alloc, block, known, version, last, seen, rest) {
             Ok(read) => read,
             Err(stop) => return Err(stop),
         };

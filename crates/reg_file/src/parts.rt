@@ -5,11 +5,13 @@ ghost use Rattle.reg_file.specs.declared.parts.Part.{Part as PartValue};
 ghost use Rattle.reg_file.specs.Reading.{says_piece};
 ghost use Rattle.reg_file.specs.Parts.{FindsPart, IsPartReadFault, IsPartReadFromFault, ReadsAsPart};
 
+use crate::block::block_of;
 use crate::fault::ReadFileFault;
 use crate::heads::{MAX_FILE, PIECE};
-use crate::pieces::read_piece_bytes_beside;
-use crate::reading::read_bytes_beside;
+use crate::pieces::read_piece_within;
+use crate::reading::read_within;
 use byte_io::{InFault, Source, read_up_to};
+use bytes::Bytes;
 use reg_state::{Piece, Register};
 use std::alloc::Global;
 
@@ -29,7 +31,7 @@ fn says_piece(bytes: &[u8]) -> bool
     }
 }
 
-/// Reads a register or a piece from the bytes of a file: a piece if the kind byte says so.
+/// Reads a register or a piece from the bytes of a file: a piece if the kind byte says so. Its texts are copied.
 pub fn read_part_bytes(alloc: Global, bytes: &[u8]) -> Result<Part, ReadFileFault>
     // The bytes are a file of the result.
     ensures found { IfOk result (λ part. ReadsAsPart bytes.now part) }
@@ -38,13 +40,13 @@ pub fn read_part_bytes(alloc: Global, bytes: &[u8]) -> Result<Part, ReadFileFaul
     // The fault is that of a piece if the bytes say that they are one, otherwise that of a register.
     ensures fault { IfErr result (IsPartReadFault bytes.now) }
 {
-    read_part_bytes_beside(alloc, &[], bytes)
+    read_part_within(alloc, &Bytes::new(), &[], bytes)
 }
 
-/// The same with known registers: if one of them has the same definition under the same id, it is shared and not read
-/// again.
-fn read_part_bytes_beside(
+// The same with known registers and with a block, as in `read_within`.
+fn read_part_within(
     alloc: Global,
+    block: &Bytes,
     known: &[Register],
     bytes: &[u8],
 ) -> Result<Part, ReadFileFault>
@@ -53,13 +55,30 @@ fn read_part_bytes_beside(
     ensures fault { IfErr result (IsPartReadFault bytes.now) }
 {
     if says_piece(bytes) {
-        return match read_piece_bytes_beside(alloc, known, bytes) {
+        return match read_piece_within(alloc, block, known, bytes) {
             Ok(piece) => Ok(Part::Piece(piece)),
             Err(fault) => Err(fault),
         };
     }
-    match read_bytes_beside(alloc, known, bytes) {
+    match read_within(alloc, block, known, bytes) {
         Ok(register) => Ok(Part::Register(register)),
+        Err(fault) => Err(fault),
+    }
+}
+
+// The same for a file that its definitions may share.
+fn read_owned(alloc: Global, known: &[Register], bytes: Vec<u8>) -> Result<Part, ReadFileFault>
+    ensures found { IfOk result (λ part. ReadsAsPart bytes.items part) }
+    ensures fault { IfErr result (IsPartReadFault bytes.items) }
+{
+    let Ok(file) = Bytes::from_vec(bytes) else {
+        return Err(ReadFileFault::Memory);
+    };
+    let Ok(block) = block_of(known, &file) else {
+        return Err(ReadFileFault::Memory);
+    };
+    match read_part_within(alloc, &block, known, file.as_slice()) {
+        Ok(part) => Ok(part),
         Err(fault) => Err(fault),
     }
 }
@@ -88,7 +107,7 @@ pub fn read_part_beside<S: Source>(
         Err(InFault::ReadFailed(n)) => return Err(ReadFileFault::ReadFailed(n)),
         Err(InFault::Memory) => return Err(ReadFileFault::Memory),
     };
-    match read_part_bytes_beside(alloc, known, &bytes) {
+    match read_owned(alloc, known, bytes) {
         Ok(part) => Ok(part),
         Err(fault) => Err(fault),
     }

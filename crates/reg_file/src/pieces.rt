@@ -12,6 +12,7 @@ ghost use Rattle.reg_file.specs.Reading.{based, piece, version_in};
 ghost use Rattle.reg_file.specs.Steps.{EndsPiece, ReadsBased, ReadsPiece, StopsAtEnd};
 ghost use Rattle.reg_file.specs.Files.{FindsPiece, HoldsPiece, IsPieceReadFault, IsPieceReadFromFault, IsPieceTooLarge, IsPieceWriteFault, ReadsAsPiece, WritesPiece};
 
+use crate::block::block_of;
 use crate::contents::{seen_and_ops_of, stop_of};
 use crate::fault::{FileFault, ReadFileFault, Stop, WriteFileFault};
 use crate::fields::{head_of, refused};
@@ -21,6 +22,7 @@ use crate::op_offset::OpOffset;
 use crate::ranges::seen_of;
 use crate::spelling::{put_head, put_ops, put_ranges};
 use byte_io::{InFault, Sink, Source, read_up_to, write_all};
+use bytes::Bytes;
 use reg_op::Op;
 use reg_state::{Piece, Register, Run, Seen};
 use std::alloc::{AllocError, Global};
@@ -52,7 +54,13 @@ fn piece_of(
 }
 
 // The basis, and the part outside it. Nothing follows.
-fn based_of(alloc: Global, known: &[Register], version: u8, bytes: &[u8]) -> Result<Piece, Stop>
+fn based_of(
+    alloc: Global,
+    block: &Bytes,
+    known: &[Register],
+    version: u8,
+    bytes: &[u8],
+) -> Result<Piece, Stop>
     ensures ok { IfOk result (λ p. ReadsBased version bytes.now p) }
     ensures err { IfErr result (StopsIn (based version) bytes.now) }
 {
@@ -60,7 +68,9 @@ fn based_of(alloc: Global, known: &[Register], version: u8, bytes: &[u8]) -> Res
         Ok(read) => read,
         Err(stop) => return Err(stop),
     };
-    let (ops, places, seen, rest) = match seen_and_ops_of(alloc, known, version, &basis, rest) {
+    let (ops, places, seen, rest) = match seen_and_ops_of(
+        alloc, block, known, version, &basis, rest,
+    ) {
         Ok(read) => read,
         Err(stop) => return Err(stop),
     };
@@ -70,7 +80,13 @@ fn based_of(alloc: Global, known: &[Register], version: u8, bytes: &[u8]) -> Res
     }
 }
 
-fn read_in(alloc: Global, known: &[Register], version: u8, bytes: &[u8]) -> Result<Piece, Stop>
+fn read_in(
+    alloc: Global,
+    block: &Bytes,
+    known: &[Register],
+    version: u8,
+    bytes: &[u8],
+) -> Result<Piece, Stop>
     ensures ok { IfOk result (λ p. ReadsPiece version bytes.now p) }
     ensures err { IfErr result (StopsIn (piece version) bytes.now) }
 {
@@ -78,21 +94,21 @@ fn read_in(alloc: Global, known: &[Register], version: u8, bytes: &[u8]) -> Resu
         Ok(read) => read,
         Err(stop) => return Err(stop),
     };
-    match based_of(alloc, known, version, rest) {
+    match based_of(alloc, block, known, version, rest) {
         Ok(piece) => Ok(piece),
         Err(stop) => Err(stop),
     }
 }
 
 // A whole file, in the version that the bytes state.
-fn read_all(alloc: Global, known: &[Register], bytes: &[u8]) -> Result<Piece, Stop>
+fn read_all(alloc: Global, block: &Bytes, known: &[Register], bytes: &[u8]) -> Result<Piece, Stop>
     ensures ok { IfOk result (λ p. ReadsPiece (version_in bytes.now) bytes.now p) }
     ensures err { IfErr result (StopsIn (piece (version_in bytes.now)) bytes.now) }
 {
-    read_in(alloc, known, version_in(bytes), bytes)
+    read_in(alloc, block, known, version_in(bytes), bytes)
 }
 
-/// Reads a piece from the bytes of a file.
+/// Reads a piece from the bytes of a file. Its texts are copied.
 pub fn read_piece_bytes(alloc: Global, bytes: &[u8]) -> Result<Piece, ReadFileFault>
     // The bytes are a file of the result.
     ensures found { IfOk result (λ p. ReadsAsPiece bytes.now p) }
@@ -101,13 +117,13 @@ pub fn read_piece_bytes(alloc: Global, bytes: &[u8]) -> Result<Piece, ReadFileFa
     // The fault is the first one.
     ensures fault { IfErr result (IsPieceReadFault bytes.now) }
 {
-    read_piece_bytes_beside(alloc, &[], bytes)
+    read_piece_within(alloc, &Bytes::new(), &[], bytes)
 }
 
-/// The same with known registers: if one of them has the same definition under the same id, it is shared and not read
-/// again.
-pub fn read_piece_bytes_beside(
+/// The same with known registers and with a block, as in `read_within`.
+pub fn read_piece_within(
     alloc: Global,
+    block: &Bytes,
     known: &[Register],
     bytes: &[u8],
 ) -> Result<Piece, ReadFileFault>
@@ -118,13 +134,30 @@ pub fn read_piece_bytes_beside(
     if bytes.len() > MAX_FILE {
         return Err(ReadFileFault::TooLarge);
     }
-    match read_all(alloc, known, bytes) {
+    match read_all(alloc, block, known, bytes) {
         Ok(piece) => Ok(piece),
         Err(Stop::Memory) => Err(ReadFileFault::Memory),
         Err(Stop::Refused(first)) => Err(ReadFileFault::File {
             fault: first.fault,
             place: bytes.len().saturating_sub(first.left),
         }),
+    }
+}
+
+// The same for a file that its definitions may share.
+fn read_owned(alloc: Global, known: &[Register], bytes: Vec<u8>) -> Result<Piece, ReadFileFault>
+    ensures found { IfOk result (λ p. ReadsAsPiece bytes.items p) }
+    ensures fault { IfErr result (IsPieceReadFault bytes.items) }
+{
+    let Ok(file) = Bytes::from_vec(bytes) else {
+        return Err(ReadFileFault::Memory);
+    };
+    let Ok(block) = block_of(known, &file) else {
+        return Err(ReadFileFault::Memory);
+    };
+    match read_piece_within(alloc, &block, known, file.as_slice()) {
+        Ok(piece) => Ok(piece),
+        Err(fault) => Err(fault),
     }
 }
 
@@ -151,7 +184,7 @@ pub fn read_piece_beside<S: Source>(
         Err(InFault::ReadFailed(n)) => return Err(ReadFileFault::ReadFailed(n)),
         Err(InFault::Memory) => return Err(ReadFileFault::Memory),
     };
-    match read_piece_bytes_beside(alloc, known, &bytes) {
+    match read_owned(alloc, known, bytes) {
         Ok(piece) => Ok(piece),
         Err(fault) => Err(fault),
     }

@@ -7,15 +7,23 @@ ghost use Rattle.reg_file.specs.Reading.{register, version_in};
 ghost use Rattle.reg_file.specs.Steps.{ReadsContent};
 ghost use Rattle.reg_file.specs.Files.{Finds, IsReadFault, IsReadFromFault, ReadsAs};
 
+use crate::block::block_of;
 use crate::contents::kept_of;
 use crate::fault::{ReadFileFault, Stop};
 use crate::fields::head_of;
 use crate::heads::{MAX_FILE, REGISTER, version_in};
 use byte_io::{InFault, Source, read_up_to};
+use bytes::Bytes;
 use reg_state::{Register, Seen};
 use std::alloc::Global;
 
-fn read_in(alloc: Global, known: &[Register], version: u8, bytes: &[u8]) -> Result<Register, Stop>
+fn read_in(
+    alloc: Global,
+    block: &Bytes,
+    known: &[Register],
+    version: u8,
+    bytes: &[u8],
+) -> Result<Register, Stop>
     ensures ok { IfOk result (λ r. ReadsContent version bytes.now r) }
     ensures err { IfErr result (StopsIn (register version) bytes.now) }
 {
@@ -23,21 +31,26 @@ fn read_in(alloc: Global, known: &[Register], version: u8, bytes: &[u8]) -> Resu
         Ok(read) => read,
         Err(stop) => return Err(stop),
     };
-    match kept_of(alloc, known, version, &Seen::new(alloc), rest) {
+    match kept_of(alloc, block, known, version, &Seen::new(alloc), rest) {
         Ok(register) => Ok(register),
         Err(stop) => Err(stop),
     }
 }
 
 // A whole file, in the version that the bytes state.
-fn read_all(alloc: Global, known: &[Register], bytes: &[u8]) -> Result<Register, Stop>
+fn read_all(
+    alloc: Global,
+    block: &Bytes,
+    known: &[Register],
+    bytes: &[u8],
+) -> Result<Register, Stop>
     ensures ok { IfOk result (λ r. ReadsContent (version_in bytes.now) bytes.now r) }
     ensures err { IfErr result (StopsIn (register (version_in bytes.now)) bytes.now) }
 {
-    read_in(alloc, known, version_in(bytes), bytes)
+    read_in(alloc, block, known, version_in(bytes), bytes)
 }
 
-/// Reads a register from the bytes of a file.
+/// Reads a register from the bytes of a file. Its texts are copied.
 pub fn read_bytes(alloc: Global, bytes: &[u8]) -> Result<Register, ReadFileFault>
     // The bytes are a file of the result.
     ensures found { IfOk result (λ r. ReadsAs bytes.now r) }
@@ -46,13 +59,14 @@ pub fn read_bytes(alloc: Global, bytes: &[u8]) -> Result<Register, ReadFileFault
     // The fault is the first one.
     ensures fault { IfErr result (IsReadFault bytes.now) }
 {
-    read_bytes_beside(alloc, &[], bytes)
+    read_within(alloc, &Bytes::new(), &[], bytes)
 }
 
-/// The same with known registers: if one of them has the same definition under the same id, it is shared and not read
-/// again.
-pub fn read_bytes_beside(
+/// The same with known registers, and with a block. If a known register has the same definition under the same id, it is shared
+/// and not read again. If the block is the file, each other text is a part of it.
+pub fn read_within(
     alloc: Global,
+    block: &Bytes,
     known: &[Register],
     bytes: &[u8],
 ) -> Result<Register, ReadFileFault>
@@ -63,13 +77,30 @@ pub fn read_bytes_beside(
     if bytes.len() > MAX_FILE {
         return Err(ReadFileFault::TooLarge);
     }
-    match read_all(alloc, known, bytes) {
+    match read_all(alloc, block, known, bytes) {
         Ok(register) => Ok(register),
         Err(Stop::Memory) => Err(ReadFileFault::Memory),
         Err(Stop::Refused(first)) => Err(ReadFileFault::File {
             fault: first.fault,
             place: bytes.len().saturating_sub(first.left),
         }),
+    }
+}
+
+// The same for a file that its definitions may share.
+fn read_owned(alloc: Global, known: &[Register], bytes: Vec<u8>) -> Result<Register, ReadFileFault>
+    ensures found { IfOk result (λ r. ReadsAs bytes.items r) }
+    ensures fault { IfErr result (IsReadFault bytes.items) }
+{
+    let Ok(file) = Bytes::from_vec(bytes) else {
+        return Err(ReadFileFault::Memory);
+    };
+    let Ok(block) = block_of(known, &file) else {
+        return Err(ReadFileFault::Memory);
+    };
+    match read_within(alloc, &block, known, file.as_slice()) {
+        Ok(register) => Ok(register),
+        Err(fault) => Err(fault),
     }
 }
 
@@ -96,7 +127,7 @@ pub fn read_register_beside<S: Source>(
         Err(InFault::ReadFailed(n)) => return Err(ReadFileFault::ReadFailed(n)),
         Err(InFault::Memory) => return Err(ReadFileFault::Memory),
     };
-    match read_bytes_beside(alloc, known, &bytes) {
+    match read_owned(alloc, known, bytes) {
         Ok(register) => Ok(register),
         Err(fault) => Err(fault),
     }

@@ -1,6 +1,6 @@
 //! The bytes of a register's file.
 
-ghost use Rattle.std.specs.Prelude.{◌≡◌, ◌≤◌, ◌<◌, ◌^◌, ◌++◌, None, length, OnOk};
+ghost use Rattle.std.specs.Prelude.{◌≡◌, ◌≤◌, ◌<◌, ◌+◌, ◌^◌, ◌++◌, None, length, vec_len, vec_capacity, OnOk, OnErr};
 ghost use Rattle.std.specs.List.{prefix_len};
 ghost use Rattle.std.specs.Ordering.{is_eq};
 ghost use Rattle.reg_state.specs.Runs.{replica_cmp};
@@ -13,21 +13,27 @@ use reg_state::Run;
 use std::alloc::AllocError;
 use uuid::Uuid;
 
-fn put_number(out: &mut Vec<u8>, number: u32) -> Result<(), AllocError>
-    ensures { OnOk result (out.new.items ≡ out.old.items ++ four number) }
+pub fn put_number(out: &mut Vec<u8>, number: u32) -> Result<(), AllocError>
+    ensures ok { OnOk result (out.new.items ≡ out.old.items ++ four number) }
+    ensures capacity { vec_capacity out.old ≤ vec_capacity out.new }
+    ensures full { OnErr result (vec_capacity out.old < vec_len out.old + length (four number)) }
 {
     out.extend_from_slice(&number.to_be_bytes())
 }
 
 fn put_id(out: &mut Vec<u8>, id: &OpId) -> Result<(), AllocError>
-    ensures { OnOk result (out.new.items ≡ out.old.items ++ id_bytes id.now) }
+    ensures ok { OnOk result (out.new.items ≡ out.old.items ++ id_bytes id.now) }
+    ensures capacity { vec_capacity out.old ≤ vec_capacity out.new }
+    ensures full { OnErr result (vec_capacity out.old < vec_len out.old + length (id_bytes id.now)) }
 {
     out.extend_from_slice(id.replica().as_bytes())?;
     put_number(out, id.count())
 }
 
 fn put_body(out: &mut Vec<u8>, body: &OpBody) -> Result<(), AllocError>
-    ensures { OnOk result (out.new.items ≡ out.old.items ++ body_bytes body.now) }
+    ensures ok { OnOk result (out.new.items ≡ out.old.items ++ body_bytes body.now) }
+    ensures capacity { vec_capacity out.old ≤ vec_capacity out.new }
+    ensures full { OnErr result (vec_capacity out.old < vec_len out.old + length (body_bytes body.now)) }
 {
     match body {
         OpBody::Enter(definition) => {
@@ -55,7 +61,9 @@ fn kind_of(body: &OpBody) -> u8
 
 // A note after its length, which version 1 does not have.
 fn put_note(out: &mut Vec<u8>, version: u8, note: &Note) -> Result<(), AllocError>
-    ensures { OnOk result (out.new.items ≡ out.old.items ++ note_bytes version note.now) }
+    ensures ok { OnOk result (out.new.items ≡ out.old.items ++ note_bytes version note.now) }
+    ensures capacity { vec_capacity out.old ≤ vec_capacity out.new }
+    ensures full { OnErr result (vec_capacity out.old < vec_len out.old + length (note_bytes version note.now)) }
 {
     if version == FIRST_VERSION {
         return Ok(());
@@ -65,8 +73,10 @@ fn put_note(out: &mut Vec<u8>, version: u8, note: &Note) -> Result<(), AllocErro
     out.extend_from_slice(bytes)
 }
 
-fn put_op(out: &mut Vec<u8>, version: u8, op: &Op) -> Result<(), AllocError>
-    ensures { OnOk result (out.new.items ≡ out.old.items ++ op_bytes version op.now) }
+pub fn put_op(out: &mut Vec<u8>, version: u8, op: &Op) -> Result<(), AllocError>
+    ensures ok { OnOk result (out.new.items ≡ out.old.items ++ op_bytes version op.now) }
+    ensures capacity { vec_capacity out.old ≤ vec_capacity out.new }
+    ensures full { OnErr result (vec_capacity out.old < vec_len out.old + length (op_bytes version op.now)) }
 {
     let id = op.id();
     let body = op.body();

@@ -4,11 +4,13 @@ ghost use Rattle.std.specs.Prelude.{◌≡◌, ◌<◌, ◌^◌, ◌↔◌, ◌�
 ghost use Rattle.reg_file.specs.Layout.{register_file};
 ghost use Rattle.reg_file.specs.Files.{Holds, HoldsIn, IsTooLarge, IsTooLargeIn, IsWriteFault, IsWriteFaultBy, Writes, WritesBy};
 
+use crate::chunks::RegisterChunks;
 use crate::fault::WriteFileFault;
 use crate::heads::{REGISTER, VERSION};
 use crate::length::length_of_register;
 use crate::spelling::{put_head, put_ops, put_ranges};
-use byte_io::{Sink, write_all};
+use byte_io::Sink;
+use byte_out::write_chunks;
 use reg_op::Op;
 use reg_state::{Register, Run};
 use std::alloc::{AllocError, Global};
@@ -60,11 +62,11 @@ pub fn write_in<K: Sink>(
     ensures large { (result ≡ Err WriteFileFault.TooLarge) ↔ IsTooLargeIn version register.now }
     ensures fault { IfErr result (IsWriteFaultBy (λ bytes. HoldsIn version bytes register.now) (K.state sink.old) (K.state sink.new)) }
 {
-    let bytes = match bytes_in(alloc, version, register) {
-        Ok(bytes) => bytes,
+    let mut chunks = match RegisterChunks::in_version(alloc, version, register) {
+        Ok(chunks) => chunks,
         Err(fault) => return Err(fault),
     };
-    match write_all(sink, &bytes) {
+    match write_chunks(sink, &mut chunks) {
         Ok(()) => Ok(()),
         Err(fault) => Err(WriteFileFault::WriteFailed(fault.written)),
     }

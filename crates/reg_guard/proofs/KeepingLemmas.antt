@@ -1,12 +1,12 @@
 -- The file of a register is replaced after the office file.
-use Rattle.std.proofs.Common.{◌≡◌, ◌⊎◌, inl, inr, List, ℕ, Option, Some, None, refl, sym, subst}
+use Rattle.std.proofs.Common.{◌≡◌, ◌⊎◌, inl, inr, List, ℕ, Option, Some, None, Bool, is_some, refl, sym, subst}
 use Rattle.byte_out.specs.Place.{PlaceState}
 use Rattle.byte_out.specs.Replace.{IsReplaceFault}
 use Rattle.byte_out.specs.declared.fault.ReplaceFault.{ReplaceFault}
 use Rattle.byte_out.specs.declared.fault.ReplaceFault.TheVariants as replaced
-use Rattle.byte_office.specs.Noting.{IsUnnotedIf}
-use Rattle.byte_office.specs.Replacing.{IsLate, IsUnreplaced}
-use Rattle.byte_office.specs.declared.fault.NoteFault.TheVariants as note
+use Rattle.byte_office.specs.Noting.{NotesIf, IsUnnotedIf}
+use Rattle.byte_office.specs.Replacing.{IsLate, IsUnreplaced, ReplacesAfter}
+use Rattle.byte_office.specs.declared.fault.OfficeFileFault.TheVariants as note
 use Rattle.byte_office.specs.declared.fault.UnreplacedFault.{UnreplacedFault}
 use Rattle.byte_office.specs.declared.fault.UnreplacedFault.TheVariants as unreplaced
 use Rattle.reg_op.specs.Contents.{Content}
@@ -18,7 +18,7 @@ use Rattle.reg_engine.specs.declared.fault.CliFault.{CliFault}
 use Rattle.reg_engine.specs.Fault.{replace_fault}
 use Rattle.reg_engine.specs.Shelf.{Disks, IsUnput}
 use Rattle.reg_engine.specs.Outputs.{IsUnpublished}
-use Rattle.reg_guard.specs.Keeping.{Notes, if_changed, IsLateFile, IsUnpublishedAfter, IsUnkeptAfter, unkept_fault}
+use Rattle.reg_guard.specs.Keeping.{Notes, Tells, is_first, if_changed, IsLateFile, PublishesAfter, IsUnpublishedAfter, IsUnkeptAfter, unkept_fault}
 
 unready : (f : ReplaceFault) (y : Content) (read : Option (List ℕ)) (bytes : List ℕ) (old new : PlaceState) → Holds bytes y → IsReplaceFault read bytes old new f
     → IsUnpublished y read old new (replace_fault f)
@@ -65,6 +65,24 @@ unpublished (unreplaced.Unnoted note.TooLarge) a b y read bytes text place after
 unpublished (unreplaced.Unnoted (note.WriteFailed n)) a b y read bytes text place after office noted is held h = ((bytes, is, h.0), (text, held, h.1))
 unpublished (unreplaced.Late f) a b y read bytes text place after office noted is held h =
     by_store f a b y read place after office noted (inr (late f y read bytes place after is h.0, (text, held, h.1)))
+
+-- the same for the text that was written, or none
+pub unpublished_with : (f : UnreplacedFault) (a b : Journal) (y : Content) (read text : Option (List ℕ)) (bytes next : List ℕ) (place after office noted : PlaceState)
+    → text ≡ if_changed (is_changed a b) next → Holds bytes y → HoldsOffice next b → IsUnreplaced read bytes text place after office noted f
+    → IsUnpublishedAfter a b y read place after office noted (unkept_fault f)
+unpublished_with f a b y read text bytes next place after office noted e is held h =
+    unpublished f a b y read bytes next place after office noted is held
+    (subst (λ (t : Option (List ℕ)). IsUnreplaced read bytes t place after office noted f) e h)
+
+pub published_with : (a b : Journal) (y : Content) (read text : Option (List ℕ)) (bytes next : List ℕ) (same : Bool) (place after office noted told : PlaceState)
+    → text ≡ if_changed (is_changed a b) next → Holds bytes y → HoldsOffice next b → ReplacesAfter read bytes text place after office noted
+    → same ≡ is_some read → Tells (is_first same b) b noted told → PublishesAfter a b y read place after office told
+published_with a b y read text bytes next same place after office noted told e is held h s t = record {
+  noted = noted;
+  notes = (next, held, subst (λ (t : Option (List ℕ)). NotesIf t office noted) e h.1);
+  publishes = (bytes, is, h.0);
+  tells = subst (λ (s : Bool). Tells (is_first s b) b noted told) s t;
+}
 
 -- ---- a shelf
 

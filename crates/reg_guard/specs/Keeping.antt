@@ -6,8 +6,8 @@ use Rattle.byte_out.specs.declared.fault.ReplaceFault.{ReplaceFault}
 use Rattle.byte_out.specs.declared.fault.ReplaceFault.TheVariants as replaced
 use Rattle.byte_office.specs.Noting.{NotesIf, IsUnnotedIf}
 use Rattle.byte_office.specs.Replacing.{IsWithdrawn, IsLate}
-use Rattle.byte_office.specs.declared.fault.NoteFault.{NoteFault}
-use Rattle.byte_office.specs.declared.fault.NoteFault.TheVariants as note
+use Rattle.byte_office.specs.declared.fault.OfficeFileFault.{OfficeFileFault}
+use Rattle.byte_office.specs.declared.fault.OfficeFileFault.TheVariants as note
 use Rattle.byte_office.specs.declared.fault.UnreplacedFault.{UnreplacedFault}
 use Rattle.byte_office.specs.declared.fault.UnreplacedFault.TheVariants as unreplaced
 use Rattle.reg_op.specs.Contents.{Content}
@@ -32,7 +32,7 @@ abbrev pub Notes : Journal → Journal → PlaceState → PlaceState → Type 0
 Notes f g office noted = (text : List ℕ) × HoldsOffice text g × NotesIf (if_changed (is_changed f g) text) office noted
 
 -- it does not, or not for sure
-abbrev pub IsUnnotedBy : Journal → Journal → PlaceState → PlaceState → NoteFault → Type 0
+abbrev pub IsUnnotedBy : Journal → Journal → PlaceState → PlaceState → OfficeFileFault → Type 0
 IsUnnotedBy f g office noted note.TooLarge = IsOfficeTooLarge g × (noted ≡ office)
 IsUnnotedBy f g office noted t = (text : List ℕ) × HoldsOffice text g × IsUnnotedIf (if_changed (is_changed f g) text) office noted t
 
@@ -46,7 +46,7 @@ Tries f g old new = (new ≡ old) ⊎ ((text : List ℕ) × (next : List ℕ) ×
 abbrev pub is_first : Bool → Journal → Bool
 is_first same f = same && nat_eq f.stood 0
 
--- the office file has been told that its last number stands in a register, if it is the first one
+-- the office file has noted that its last number stands in a register, if it is the first one
 abbrev pub Tells : Bool → Journal → PlaceState → PlaceState → Type 0
 Tells true f old new = Tries f (landed f) old new
 Tells false f old new = new ≡ old

@@ -4,16 +4,16 @@ ghost use Rattle.std.specs.Prelude.{◌≡◌, IfOk, OnOk, IfErr, ◌⊎◌, is_
 ghost use Rattle.reg_op.specs.Contents.{Content};
 ghost use Rattle.reg_engine.specs.Shelf.{disks, Has, IsSure};
 ghost use Rattle.reg_engine.specs.declared.fault.CliFault.TheVariants as cli;
-ghost use Rattle.byte_office.specs.declared.fault.NoteFault.TheVariants as note;
+ghost use Rattle.byte_office.specs.declared.fault.OfficeFileFault.TheVariants as note;
 ghost use Rattle.reg_journal.specs.Adding.{landed};
 ghost use Rattle.reg_journal.specs.Text.{HoldsOffice, IsOfficeTooLarge};
 ghost use Rattle.reg_guard.specs.Keeping.{if_changed, is_first, PublishesAfter, IsUnpublishedAfter, KeepsAfter, IsUnkeptAfter, Tells, Tries, unkept_fault};
 
 use byte_disk::Disk;
-use byte_office::{NoteFault, UnreplacedFault, put_changed, replace_after};
+use byte_office::{OfficeFileFault, UnreplacedFault, put_changed, replace_after};
 use byte_out::{Place, replace};
 use reg_engine::{CliFault, OutFault, put_on, ready_on};
-use reg_file::{WriteFileFault, write_bytes};
+use reg_file::{RegisterChunks, WriteFileFault};
 use reg_journal::OfficeFile;
 use reg_state::Register;
 use std::alloc::Global;
@@ -38,13 +38,13 @@ pub(crate) fn publish_after<P: Place, Q: Place>(
         Ok(text) => text,
         Err(fault) => return Err(fault),
     };
-    let bytes = match write_bytes(alloc, register) {
-        Ok(bytes) => bytes,
+    let mut chunks = match RegisterChunks::new(alloc, register) {
+        Ok(chunks) => chunks,
         Err(WriteFileFault::TooLarge) => return Err(CliFault::Out(OutFault::TooLarge)),
         Err(_) => return Err(CliFault::Memory),
     };
     let changed = changed(file.is_changed(&next), &text);
-    match replace_after(place, read, &bytes, office, changed) {
+    match replace_after(place, read, &mut chunks, office, changed) {
         Ok(()) => {}
         Err(fault) => return Err(unkept_by(fault)),
     }
@@ -53,7 +53,7 @@ pub(crate) fn publish_after<P: Place, Q: Place>(
 }
 
 /// Makes the register ready for the shelf from which another one was restored, replaces the office file by the next one, and then
-/// changes the shelf. Then the office file is told that its last number stands in a register.
+/// changes the shelf. Then the office file notes that its last number stands in a register.
 pub(crate) fn keep_after<D: Disk, Q: Place>(
     alloc: Global,
     file: &OfficeFile,
@@ -99,7 +99,7 @@ fn office_text(alloc: Global, next: &OfficeFile) -> Result<Vec<u8>, CliFault>
 {
     match next.to_bytes(alloc) {
         Ok(text) => Ok(text),
-        Err(WriteFileFault::TooLarge) => Err(CliFault::Office(NoteFault::TooLarge)),
+        Err(WriteFileFault::TooLarge) => Err(CliFault::Office(OfficeFileFault::TooLarge)),
         Err(_) => Err(CliFault::Memory),
     }
 }

@@ -4,7 +4,7 @@ use crate::hidden::Hidden;
 use crate::risen::Risen;
 use std::fmt;
 
-// The offices that are named; of more the number is told.
+// The offices that are named; of more, only the number is printed.
 const NAMED: usize = 3;
 
 impl fmt::Display for Risen {

@@ -19,14 +19,14 @@ use Rattle.reg_import.specs.Again.{is_there, IsToldAgain}
 use Rattle.reg_import.proofs.KnownLemmas.{same_key, key_itself}
 use Rattle.reg_import.proofs.TextLemmas.{HasText, blocks, there_then, there_makes_nothing, there_not_refused, refused_then, refused_makes_nothing, refused_not_there, there_of_text, not_of_refused, blocks_of_refused, refused_of_blocks, closed_on, comes_ours, ours_on, blocks_on}
 
--- a property of the new bucket of one key, and of the old buckets of other keys, holds for each bucket after the change
+-- a property of the new entries of one key, and of the old entries of other keys, holds for those of each key after the change
 pub at_key : (P : OfKey → Type 0) (key k : KeyBytes) (new : OfKey) (at : At) → (key ≡ k → P new) → (is_key key k ≡ false → P (at k)) → P (with_key key new at k)
 at_key P key k new at f g = elim (is_key key k) as (λ b. is_key key k ≡ b → P (cond b new (at k))) [
   | true ↦ λ e. f (same_key key k e)
   | false ↦ λ e. g e
 ] refl
 
--- the bucket of each key after some texts are imported
+-- the entries of each key after some texts are imported
 abbrev pub finally : Differs → List ℕ → ℕ → At → List ReadText → At
 finally d r n at [] = at
 finally d r n at (text ∷ texts) =
@@ -43,7 +43,7 @@ ours_then d r n at (reading.Defined text key) k e o c =
     (λ same. ours_on d (id_at r n) (at (bytes_of key)) text key e (subst (λ l. (at l).ours ≡ true) (sym same) o) (subst (λ l. Contains (at l).known e) (sym same) c))
     (λ _. (c, o))
 
--- an entry of a bucket with `ours` remains in it to the end
+-- an entry of a key with `ours` remains there to the end
 pub ours_stay : (d : Differs) (r : List ℕ) (n : ℕ) (at : At) (texts : List ReadText) (k : KeyBytes) (e : StandingEntry) → (at k).ours ≡ true → Contains (at k).known e → Contains (finally d r n at texts k).known e
 ours_stay d r n at [] k e o c = c
 ours_stay d r n at (text ∷ texts) k e o c =

@@ -77,15 +77,15 @@ after_cases before (e ∷ es) i h = elim (after_cases (e.entry ∷ before) es i 
   | inr a ↦ inr (or_right (is_same i e.entry) _ a)
 ]
 
--- ---- the bucket of each key
+-- ---- the entries of each key
 
--- the entries of each bucket without `ours` can be retired, and no two such buckets share an id
+-- the entries of each key without `ours` can be retired, and no two such keys share an id
 pub record Fresh (ops : Ops) (before : List Id) (at : At) : Type 0 where
   pub can : (k : KeyBytes) → (at k).ours ≡ false → CanRetire ops before (at k).known
   pub apart : (k l : KeyBytes) (i : Id) → (at k).ours ≡ false → (at l).ours ≡ false → among i (at k).known ≡ true → among i (at l).known ≡ true → is_key k l ≡ true
 
 module _ (ops : Ops) (before : List Id) (at : At) (key : KeyBytes) (new : OfKey) where
-  -- a bucket without `ours` is the old one
+  -- the entries of a key without `ours` are the old ones
   as_it_was : (new.ours ≡ false → new ≡ at key) → (k : KeyBytes) → (with_key key new at k).ours ≡ false → with_key key new at k ≡ at k
   as_it_was h k o = elim (is_key key k) as (λ b. is_key key k ≡ b → (cond b new (at k)).ours ≡ false → cond b new (at k) ≡ at k) [
     | true ↦ λ e p. h p ∙ ap at (same_key key k e)
@@ -106,7 +106,7 @@ module _ (ops : Ops) (before : List Id) (at : At) (key : KeyBytes) (new : OfKey)
   fresh_same : (new.ours ≡ false → new ≡ at key) → Fresh ops before at → Fresh ops before (with_key key new at)
   fresh_same h f = fresh_on before h f (λ k o. f.can k (subst (λ there. there.ours ≡ false) (as_it_was h k o) o))
 
--- retiring all entries of a bucket, and setting its `ours`, leaves the others fresh
+-- retiring all entries of a key, and setting its `ours`, leaves the others fresh
 fresh_revised : (ops : Ops) (before : List Id) (at : At) (key : KeyBytes) (new : OfKey) → (at key).ours ≡ false → new.ours ≡ true → Fresh ops before at → Fresh ops (and_retired before (retired (at key).known)) (with_key key new at)
 fresh_revised ops before at key new free ours f =
     let not_free : new.ours ≡ false → new ≡ at key = λ e. absurd (true≢false (sym ours ∙ e)) in

@@ -14,7 +14,7 @@ use Rattle.reg_report.specs.declared.row.Row.{Row}
 use Rattle.reg_report.specs.Conflicts.{KeyBytes, bytes_of, key_cmp, HasKey}
 use Rattle.reg_report.specs.Seen.{row_seen}
 use Rattle.reg_report.proofs.ConflictLemmas.{key_total, key_exact, none_in, in_cons, in_head, in_tail}
-use Rattle.reg_import.specs.declared.index.KeyText.{KeyText}
+use Rattle.reg_import.specs.declared.index.OwnedKeyText.{OwnedKeyText}
 use Rattle.reg_import.specs.declared.reading.ReadText.{ReadText}
 use Rattle.reg_import.specs.declared.reading.ReadText.TheVariants as reading
 use Rattle.reg_import.specs.Known.{stands}

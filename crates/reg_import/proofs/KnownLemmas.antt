@@ -18,7 +18,7 @@ same_key a b h = key_exact a b ((Equal-is (key_cmp a b)).0 h)
 pub key_itself : (a b : KeyBytes) → a ≡ b → is_key a b ≡ true
 key_itself a b e = subst (λ k. is_key a k ≡ true) e (ap is_eq (tied_itself key_total a))
 
--- ---- a bucket that is replaced twice
+-- ---- the entries of a key that are replaced twice
 
 with_key_again : (k : KeyBytes) (new none : OfKey) (at : At) (q : KeyBytes) → with_key k new (with_key k none at) q ≡ with_key k new at q
 with_key_again k new none at q = elim (is_key k q) as (λ b. cond b new (cond b none (at q)) ≡ cond b new (at q)) [ true ↦ refl | false ↦ refl ]

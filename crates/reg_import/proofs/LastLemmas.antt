@@ -1,4 +1,4 @@
--- The buckets after an import have the texts of the entries that are not retired after it.
+-- The entries of each key after an import have the texts of the entries that are not retired after it.
 use Rattle.std.proofs.Common.{◌≡◌, ℕ, ◌+◌, true, false, ◌&&◌, ◌||◌, List, [], ◌∷◌, ◌++◌, append_assoc, append-nil, add-zero, length, refl, sym, ap, ◌∙◌, subst, inl, inr, ◌⊎◌, arith}
 use Rattle.std.specs.Prelude.{Contains}
 use Rattle.std.specs.Cmp.{tied_itself}
@@ -81,7 +81,7 @@ gone_of : (t : TextAction) (text : List ℕ) (es : List StandingEntry) (i : Id) 
 gone_of (told.Revised j) text es i h = gone_retired i es h
 gone_of t text es i h = absurd cc
 
--- an entry that the effects do not retire remains in its bucket
+-- an entry that the effects do not retire remains among those of its key
 stays_of : (t : TextAction) (key : Key) (text : List ℕ) (there : OfKey) (e : StandingEntry) → Contains there.known e → gone e.entry (bodies_of t text there.known) ≡ false → Contains (then_of t key text there).known e
 stays_of (told.Same j) key text there e c h = c
 stays_of (told.Superseded j) key text there e c h = c
@@ -128,7 +128,7 @@ module _ (r : List ℕ) (note : List ℕ) where
   itself : (n : ℕ) (text : List ℕ) (bs : List Body) → has (numbered r n note (Enter text ∷ bs)) (entering (id_at r n) text note) ≡ true
   itself n text bs = or_left _ (has (numbered r (n + 1) note bs) (entering (id_at r n) text note)) (ap is_eq (tied_itself op_total (entering (id_at r n) text note)))
 
-  -- an entry of the bucket after a text was in it before, and the text retires nothing; or it is the entry of the text
+  -- an entry of the key after a text was there before, and the text retires nothing; or it is the entry of the text
   abbrev IsThen : TextAction → ℕ → Key → List ℕ → OfKey → StandingEntry → Type 0
   IsThen t n key text there e = (Contains there.known e × ((i : Id) → gone i (bodies_of t text there.known) ≡ false))
       ⊎ ((e ≡ entered (id_at r n) key text) × (has (numbered r n note (bodies_of t text there.known)) (entering (id_at r n) text note) ≡ true))
@@ -178,7 +178,7 @@ module _ (r : List ℕ) (note : List ℕ) where
         | inr later ↦ absurd (none later)
       ]
 
-  -- the text was read as a definition, and an entry in the last bucket of its key has it
+  -- the text was read as a definition, and one of the last entries of its key has it
   pub record IsAtEnd (last : At) (texts : List ReadText) (text : List ℕ) : Type 0 where
     pub key : Key
     pub read : Contains texts (reading.Defined text key)
@@ -215,14 +215,14 @@ module _ (r : List ℕ) (note : List ℕ) where
         | inr b ↦ later (finally d r (n + length bs) next texts) (reading.Defined text key) texts other (enters_there d (n + length bs) next texts i other noted keyed.1 b)
       ]
 
--- ---- the entries of the last buckets are not retired
+-- ---- the last entries of each key are not retired
 
 -- one of the operations enters it, and it has the key of its text
 pub record IsNew (os : List Op) (note : List ℕ) (e : StandingEntry) : Type 0 where
   pub entered : has os (entering e.entry e.definition note) ≡ true
   pub keyed : IsKeyIn e.key e.definition
 
--- each entry of a bucket has its key, and is an old one that the effects do not retire, or a new one
+-- each of the last entries of a key has this key, and is an old one that the effects do not retire, or a new one
 pub record Stand (x : Content) (os : List Op) (note : List ℕ) (before : List Body) (at : At) : Type 0 where
   pub each : (k : KeyBytes) (e : StandingEntry) → Contains (at k).known e → ((IsOld x e × (gone e.entry before ≡ false)) ⊎ IsNew os note e) × (key_of e ≡ k)
 
@@ -354,7 +354,7 @@ module _ (x y : Content) (replica note : List ℕ) (d : Differs) (texts : List R
   up : (k : KeyBytes) (e : StandingEntry) → Contains (last k).known e → IsUp e × (key_of e ≡ k)
   up k e c = let h = at_last.each k e c in (elim h.0 [ inl a ↦ old_up e a.0 a.1 | inr b ↦ new_up e b ], h.1)
 
-  -- each entry of a last bucket shares its text with an entry of the new content that is not retired
+  -- each of the last entries of a key shares its text with an entry of the new content that is not retired
   pub last_stands : (k : KeyBytes) (text : List ℕ) → HasText (last k).known text → HasStanding y.ops text
   last_stands k text h =
       let its = (up k h.0 h.1).0 in

@@ -226,7 +226,7 @@ defined_as w (reading.Unread f) h d = absurd (no_fault w d f h.0 h.1)
 
 -- ---- texts that are entered beside others
 
--- if the counts suffice, each definition that was read has an entry in the last bucket of its key
+-- if the counts suffice, each definition that was read has an entry among the last ones of its key
 beside_there : (r : List ℕ) (n : ℕ) (at : At) (readings : List ReadText) (text : List ℕ) (key : Key) → NoneSpent (tolds (imports differs.Beside r n at readings)) → Contains readings (reading.Defined text key)
     → HasText (finally differs.Beside r n at readings (bytes_of key)).known text
 beside_there r n at [] text key unspent c = absurd (none_in (reading.Defined text key) c)

@@ -125,7 +125,7 @@ one_alone e a b c d = ap (λ (g : StandingEntry). g.definition) (it a c ∙ sym 
 pushed_alone : (known : List StandingEntry) (e : StandingEntry) → known ≡ [] → OneText (known ++ e ∷ [])
 pushed_alone known e none = subst (λ l. OneText (l ++ e ∷ [])) (sym none) (one_alone e)
 
--- the texts of the bucket are among those of the first one, or it has one text
+-- the texts of the key's entries are among those of the first ones, or there is one text
 abbrev Kept : OfKey → OfKey → Type 0
 Kept first there = ((text : List ℕ) → HasText there.known text → HasText first.known text) ⊎ OneText there.known
 
@@ -168,7 +168,7 @@ one_stays k r n at (reading.Defined text key ∷ texts) h =
     (at_key (λ o. OneText o.known) (bytes_of key) k (then_of t key text there) at (λ same. revise_on there (id_at r n) key text (subst (λ l. OneText (at l).known) (sym same) h)) (λ _. h))
 
 module _ (r : List ℕ) (note : List ℕ) where
-  -- a text that is entered is the only one of its bucket then
+  -- a text that is entered is the only one of its key then
   entered_alone : (n : ℕ) (key : Key) (text : List ℕ) (there : OfKey) (i : Id) (other noted : List ℕ)
       → has (numbered r n note (bodies_of (told_of differs.Revise (id_at r n) there text) text there.known)) (entering i other noted) ≡ true
       → OneText (then_of (told_of differs.Revise (id_at r n) there text) key text there).known
@@ -236,7 +236,7 @@ module _ (x y : Content) (replica note : List ℕ) (d : Differs) (texts : List R
   abbrev last : At
   last = finally d replica first (by_key es) texts
 
-  -- a text of an entry that is not retired afterwards is in the last bucket of its key
+  -- a text of an entry that is not retired afterwards is among the last ones of its key
   in_last : (k : KeyBytes) (text : List ℕ) → HasKey text k → HasStanding y.ops text → HasText (last k).known text
   in_last k text (key, in_text, of_key) h =
       let found = standing_entry y.ops text h in
@@ -261,7 +261,7 @@ module _ (x y : Content) (replica note : List ℕ) (d : Differs) (texts : List R
       or_end true = refl
       or_end false = refl
 
-  -- a text of a first bucket is that of an entry that is not retired before
+  -- a text of the first entries of a key is that of an entry that is not retired before
   record IsBefore (k : KeyBytes) (text : List ℕ) : Type 0 where
     row : Row
     there : Contains (rows x.ops) row

@@ -11,7 +11,7 @@ use Rattle.reg_report.specs.Conflicts.{bytes_of}
 use Rattle.reg_office.specs.Making.{numbered}
 use Rattle.reg_office.proofs.NumberLemmas.{length_map}
 use Rattle.reg_import.specs.declared.standing_entry.StandingEntry.{StandingEntry}
-use Rattle.reg_import.specs.declared.index.KeyText.{KeyText}
+use Rattle.reg_import.specs.declared.index.OwnedKeyText.{OwnedKeyText}
 use Rattle.reg_import.specs.declared.entries_of_key.EntriesOfKey.{EntriesOfKey}
 use Rattle.reg_import.specs.declared.reading.ReadText.{ReadText}
 use Rattle.reg_import.specs.declared.reading.ReadText.TheVariants as reading
@@ -20,7 +20,7 @@ use Rattle.reg_import.specs.declared.action.Problem.TheVariants as problem
 use Rattle.reg_import.specs.declared.action.TextAction.{TextAction}
 use Rattle.reg_import.specs.declared.action.TextAction.TheVariants as told
 use Rattle.reg_import.specs.Known.{OfKey, At, key_of, with_key}
-use Rattle.reg_import.specs.Index.{key_bytes, bucket_seen, nothing_there, Indexes, and_entry, with_entry}
+use Rattle.reg_import.specs.Index.{key_bytes, entries_seen, nothing_there, Indexes, and_entry, with_entry}
 use Rattle.reg_op.specs.Ids.{Id}
 use Rattle.reg_import.specs.declared.summary.Found.{Found}
 use Rattle.reg_import.specs.Summary.{found, told_by}
@@ -58,19 +58,19 @@ fits_at d r n at (reading.Defined text key) h = fits_told d r n (at (bytes_of ke
 
 -- ---- one text
 
-module _ (d : Differs) (r : List ℕ) (n : ℕ) (note text : List ℕ) (key : Key) (at : At) (kt : KeyText) (b b' : EntriesOfKey) (m : BTreeMap KeyText EntriesOfKey) (old new : List Op) (t : TextAction) where
-  pub step_is : key_bytes kt ≡ bytes_of key → bucket_seen b ≡ at (key_bytes kt) → t ≡ told_of d (id_at r n) (bucket_seen b) text → new ≡ old ++ numbered r n note (bodies_of t text b.known.items)
-      → bucket_seen b' ≡ then_of t key text (bucket_seen b) → Indexes m (with_key (key_bytes kt) (bucket_seen b') (with_key (key_bytes kt) nothing_there at))
+module _ (d : Differs) (r : List ℕ) (n : ℕ) (note text : List ℕ) (key : Key) (at : At) (kt : OwnedKeyText) (b b' : EntriesOfKey) (m : BTreeMap OwnedKeyText EntriesOfKey) (old new : List Op) (t : TextAction) where
+  pub step_is : key_bytes kt ≡ bytes_of key → entries_seen b ≡ at (key_bytes kt) → t ≡ told_of d (id_at r n) (entries_seen b) text → new ≡ old ++ numbered r n note (bodies_of t text b.known.items)
+      → entries_seen b' ≡ then_of t key text (entries_seen b) → Indexes m (with_key (key_bytes kt) (entries_seen b') (with_key (key_bytes kt) nothing_there at))
       → StepsOn d r n note (reading.Defined text key) at m old new t
   step_is k there is ops now index =
-      let found : bucket_seen b ≡ at (bytes_of key) = there ∙ ap at k in record {
+      let found : entries_seen b ≡ at (bytes_of key) = there ∙ ap at k in record {
         told = is ∙ ap (λ o. told_of d (id_at r n) o text) found;
         made = ops ∙ ap (λ o. old ++ numbered r n note (bodies_of t text o.known)) found;
-        index = λ q. index q ∙ put_again (key_bytes kt) (bytes_of key) (bucket_seen b') (then_of t key text (at (bytes_of key))) nothing_there at (key_bytes q) k (now ∙ ap (then_of t key text) found);
+        index = λ q. index q ∙ put_again (key_bytes kt) (bytes_of key) (entries_seen b') (then_of t key text (at (bytes_of key))) nothing_there at (key_bytes q) k (now ∙ ap (then_of t key text) found);
       }
 
 -- a text that is no definition is refused, and makes nothing
-pub step_unread : (d : Differs) (r : List ℕ) (n : ℕ) (note : List ℕ) (text : ReadText) (at : At) (m : BTreeMap KeyText EntriesOfKey) (ops : List Op) (before after : List TextAction) (f g : DefinitionFault)
+pub step_unread : (d : Differs) (r : List ℕ) (n : ℕ) (note : List ℕ) (text : ReadText) (at : At) (m : BTreeMap OwnedKeyText EntriesOfKey) (ops : List Op) (before after : List TextAction) (f g : DefinitionFault)
     → text ≡ reading.Unread f → g ≡ f → after ≡ before ++ told.Refused (problem.Unread g) ∷ [] → Indexes m at → StepTold d r n note text at m ops ops before after
 step_unread d r n note text at m ops before after f g is same pushed index =
     subst (λ (t : ReadText). StepTold d r n note t at m ops ops before after) (sym is) (
@@ -80,7 +80,7 @@ step_unread d r n note text at m ops before after f g is same pushed index =
     )
 
 -- a definition has its action, with a key that is the same
-pub step_defined_by : (d : Differs) (r : List ℕ) (n : ℕ) (note : List ℕ) (text : ReadText) (at : At) (m : BTreeMap KeyText EntriesOfKey) (old new : List Op) (before after : List TextAction) (t : TextAction) (definition : List ℕ) (key its : Key)
+pub step_defined_by : (d : Differs) (r : List ℕ) (n : ℕ) (note : List ℕ) (text : ReadText) (at : At) (m : BTreeMap OwnedKeyText EntriesOfKey) (old new : List Op) (before after : List TextAction) (t : TextAction) (definition : List ℕ) (key its : Key)
     → text ≡ reading.Defined definition key → its ≡ key → after ≡ before ++ t ∷ [] → StepsOn d r n note (reading.Defined definition its) at m old new t → StepTold d r n note text at m old new before after
 step_defined_by d r n note text at m old new before after t definition key its is same pushed steps =
     subst (λ (u : ReadText). StepTold d r n note u at m old new before after) (sym is)
@@ -89,14 +89,14 @@ step_defined_by d r n note text at m old new before after t definition key its i
 -- ---- a loop over the texts
 
 -- the loop invariant: the actions and operations so far, followed by those of `rest`, are those of `all`
-pub record Planned (d : Differs) (r : List ℕ) (first : ℕ) (note : List ℕ) (start : At) (all rest : List ReadText) (m : BTreeMap KeyText EntriesOfKey) (ts : List TextAction) (ops : List Op) : Type 0 where
+pub record Planned (d : Differs) (r : List ℕ) (first : ℕ) (note : List ℕ) (start : At) (all rest : List ReadText) (m : BTreeMap OwnedKeyText EntriesOfKey) (ts : List TextAction) (ops : List Op) : Type 0 where
   pub at : At
   pub index : Indexes m at
   pub fits : first + length ops ≤ 4294967296
   pub told : ts ++ tolds (imports d r (first + length ops) at rest) ≡ tolds (imports d r first start all)
   pub made : ops ++ numbered r (first + length ops) note (effects (imports d r (first + length ops) at rest)) ≡ numbered r first note (effects (imports d r first start all))
 
-pub planned_none : (d : Differs) (r : List ℕ) (first : ℕ) (note : List ℕ) (start : At) (all : List ReadText) (m : BTreeMap KeyText EntriesOfKey) (ts : List TextAction) (ops : List Op) → ts ≡ [] → ops ≡ [] → first ≤ 4294967296 → Indexes m start → Planned d r first note start all all m ts ops
+pub planned_none : (d : Differs) (r : List ℕ) (first : ℕ) (note : List ℕ) (start : At) (all : List ReadText) (m : BTreeMap OwnedKeyText EntriesOfKey) (ts : List TextAction) (ops : List Op) → ts ≡ [] → ops ≡ [] → first ≤ 4294967296 → Indexes m start → Planned d r first note start all all m ts ops
 planned_none d r first note start all m ts ops t0 o0 h i =
     let e : first + length ops ≡ first = (λ j. first + length (o0 j)) ∙ add-zero first in record {
       at = start;
@@ -106,7 +106,7 @@ planned_none d r first note start all m ts ops t0 o0 h i =
       made = (λ j. o0 j ++ numbered r (e j) note (effects (imports d r (e j) start all)));
     }
 
-module _ (d : Differs) (r : List ℕ) (first : ℕ) (note : List ℕ) (start : At) (all rest others : List ReadText) (text : ReadText) (m m' : BTreeMap KeyText EntriesOfKey) (ts : List TextAction) (old new : List Op) (t : TextAction) (count : ℕ) (ts' : List TextAction) where
+module _ (d : Differs) (r : List ℕ) (first : ℕ) (note : List ℕ) (start : At) (all rest others : List ReadText) (text : ReadText) (m m' : BTreeMap OwnedKeyText EntriesOfKey) (ts : List TextAction) (old new : List Op) (t : TextAction) (count : ℕ) (ts' : List TextAction) where
   pub planned_more : rest ≡ text ∷ others → (p : Planned d r first note start all rest m ts old) → count ≡ first + length old → StepsOn d r count note text p.at m' old new t → ts' ≡ ts ++ t ∷ [] → Planned d r first note start all others m' ts' new
   planned_more at_rest p same given told_then =
       let n : ℕ = first + length old in
@@ -136,11 +136,11 @@ module _ (d : Differs) (r : List ℕ) (first : ℕ) (note : List ℕ) (start : A
             ∙ p.made;
       }
 
-pub planned_all : (d : Differs) (r : List ℕ) (first : ℕ) (note : List ℕ) (start : At) (all rest : List ReadText) (m : BTreeMap KeyText EntriesOfKey) (ts : List TextAction) (ops : List Op) → length rest ≡ 0 → Planned d r first note start all rest m ts ops → Lists r first note (imports d r first start all) ts ops
+pub planned_all : (d : Differs) (r : List ℕ) (first : ℕ) (note : List ℕ) (start : At) (all rest : List ReadText) (m : BTreeMap OwnedKeyText EntriesOfKey) (ts : List TextAction) (ops : List Op) → length rest ≡ 0 → Planned d r first note start all rest m ts ops → Lists r first note (imports d r first start all) ts ops
 planned_all d r first note start all [] m ts ops e p = record { told = sym (append-nil ts) ∙ p.told; made = sym (append-nil ops) ∙ p.made }
 planned_all d r first note start all (x ∷ rest) m ts ops e p = absurd (omega arith)
 
--- putting an entry into the index appends it to the bucket of its key
-pub entry_put : (kt : KeyText) (b b' : EntriesOfKey) (e : StandingEntry) (m : BTreeMap KeyText EntriesOfKey) (at : At) → key_bytes kt ≡ key_of e → bucket_seen b ≡ at (key_bytes kt) → bucket_seen b' ≡ and_entry e (bucket_seen b)
-    → Indexes m (with_key (key_bytes kt) (bucket_seen b') (with_key (key_bytes kt) nothing_there at)) → Indexes m (with_entry e at)
-entry_put kt b b' e m at k there now index q = index q ∙ put_again (key_bytes kt) (key_of e) (bucket_seen b') (and_entry e (at (key_of e))) nothing_there at (key_bytes q) k (now ∙ ap (and_entry e) (there ∙ ap at k))
+-- putting an entry into the index appends it to the entries of its key
+pub entry_put : (kt : OwnedKeyText) (b b' : EntriesOfKey) (e : StandingEntry) (m : BTreeMap OwnedKeyText EntriesOfKey) (at : At) → key_bytes kt ≡ key_of e → entries_seen b ≡ at (key_bytes kt) → entries_seen b' ≡ and_entry e (entries_seen b)
+    → Indexes m (with_key (key_bytes kt) (entries_seen b') (with_key (key_bytes kt) nothing_there at)) → Indexes m (with_entry e at)
+entry_put kt b b' e m at k there now index q = index q ∙ put_again (key_bytes kt) (key_of e) (entries_seen b') (and_entry e (at (key_of e))) nothing_there at (key_bytes q) k (now ∙ ap (and_entry e) (there ∙ ap at k))

@@ -77,7 +77,7 @@ refused_not_there t h = absurd cc
 
 -- ---- a text that no entry has
 
--- whether a new text is refused, given the least entry of its key and whether the bucket has `ours`
+-- whether a new text is refused, given the least entry of its key and whether the key has `ours`
 abbrev pub blocks : Option Id → Differs → Bool → Bool
 blocks None d ours = false
 blocks (Some i) differs.Refuse ours = true
@@ -132,7 +132,7 @@ module _ (d : Differs) (new : Id) (there : OfKey) (text : List ℕ) where
   abbrev otherwise : TextAction
   otherwise = told_of_new (least any_entry there.known) d new there
 
-  -- an entry of the bucket has the text and the action finds it; or none has it and the action is that for a new text
+  -- an entry of the key has the text and the action finds it; or none has it and the action is that for a new text
   abbrev AsThere : TextAction → Type 0
   AsThere t = ((is_there t ≡ true) × HasText there.known text) ⊎ ((HasText there.known text → ⊥) × (t ≡ otherwise))
 
@@ -182,7 +182,7 @@ module _ (d : Differs) (new : Id) (there : OfKey) (text : List ℕ) where
   abbrev Comes : Key → TextAction → Type 0
   Comes key t = is_refused t ≡ false → is_spent t ≡ false → (is_there t ≡ true → HasText there.known text) → HasText (then_of t key text there).known text × ((then_of t key text there).ours ≡ true)
 
-  -- after a text that is neither refused nor spent, an entry of the bucket has it, and the bucket has `ours`
+  -- after a text that is neither refused nor spent, an entry of its key has it, and the key has `ours`
   pub comes_ours : (key : Key) → is_refused its ≡ false → is_spent its ≡ false → HasText (then_of its key text there).known text × ((then_of its key text there).ours ≡ true)
   comes_ours key r s = told_has (Comes key) d new there text (record {
     same = λ i a b h. (h refl, refl);
@@ -197,7 +197,7 @@ module _ (d : Differs) (new : Id) (there : OfKey) (text : List ℕ) where
       behind : HasText (there.known ++ entered new key text ∷ []) text
       behind = (entered new key text, Contains-append_right there.known (entered new key text ∷ []) (entered new key text) (in_head (entered new key text) []), refl)
 
-  -- a bucket with `ours` keeps each entry, and `ours`
+  -- a key with `ours` keeps each entry, and `ours`
   pub ours_on : (key : Key) (e : StandingEntry) → there.ours ≡ true → Contains there.known e → Contains (then_of its key text there).known e × ((then_of its key text there).ours ≡ true)
   ours_on key e o c = told_has (λ t. Contains (then_of t key text there).known e × ((then_of t key text there).ours ≡ true)) d new there text (record {
     same = λ i. (c, refl);

@@ -4,29 +4,29 @@ use Rattle.std.specs.declared.cmp.Ordering.{Ordering}
 use Rattle.std.specs.BTreeMap.{BTreeMap, get}
 use Rattle.reg_report.specs.Conflicts.{KeyBytes, key_cmp}
 use Rattle.reg_import.specs.declared.standing_entry.StandingEntry.{StandingEntry}
-use Rattle.reg_import.specs.declared.index.KeyText.{KeyText}
+use Rattle.reg_import.specs.declared.index.OwnedKeyText.{OwnedKeyText}
 use Rattle.reg_import.specs.declared.entries_of_key.EntriesOfKey.{EntriesOfKey}
 use Rattle.reg_import.specs.Known.{OfKey, At, key_of, with_key}
 
-abbrev pub key_bytes : KeyText → KeyBytes
+abbrev pub key_bytes : OwnedKeyText → KeyBytes
 key_bytes k = record { authority = k.authority.items; code = k.code.items }
 
-abbrev pub text_cmp : KeyText → KeyText → Ordering
+abbrev pub text_cmp : OwnedKeyText → OwnedKeyText → Ordering
 text_cmp a b = key_cmp (key_bytes a) (key_bytes b)
 
-abbrev pub bucket_seen : EntriesOfKey → OfKey
-bucket_seen b = record { known = b.known.items; ours = b.ours }
+abbrev pub entries_seen : EntriesOfKey → OfKey
+entries_seen b = record { known = b.known.items; ours = b.ours }
 
 abbrev pub nothing_there : OfKey
 nothing_there = record { known = []; ours = false }
 
 abbrev pub seen_in : Option EntriesOfKey → OfKey
 seen_in None = nothing_there
-seen_in (Some b) = bucket_seen b
+seen_in (Some b) = entries_seen b
 
 -- it has the entries of each key
-abbrev pub Indexes : BTreeMap KeyText EntriesOfKey → At → Type 0
-Indexes m at = (q : KeyText) → seen_in (get text_cmp m q) ≡ at (key_bytes q)
+abbrev pub Indexes : BTreeMap OwnedKeyText EntriesOfKey → At → Type 0
+Indexes m at = (q : OwnedKeyText) → seen_in (get text_cmp m q) ≡ at (key_bytes q)
 
 -- one more entry of its key
 abbrev pub and_entry : StandingEntry → OfKey → OfKey

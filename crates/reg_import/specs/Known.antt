@@ -35,12 +35,12 @@ stands r = not (is_retired r.status)
 abbrev pub AreStanding : Ops → List StandingEntry → Type 0
 AreStanding s es = AreKnown (filter stands (rows s)) es
 
--- the bucket of a key: its entries that are not retired, and whether this command entered or found one of them
+-- the entries of a key that are not retired, and whether this command entered or found one of them
 pub record OfKey : Type 0 where
   pub known : List StandingEntry
   pub ours : Bool
 
--- the bucket of each key
+-- the entries of each key
 abbrev pub At : Type 0
 At = KeyBytes → OfKey
 
@@ -54,6 +54,6 @@ key_of e = bytes_of e.key
 abbrev pub by_key : List StandingEntry → At
 by_key es = λ k. record { known = filter (λ (e : StandingEntry). is_key k (key_of e)) es; ours = false }
 
--- this key has a new bucket, and every other key its old one
+-- this key has new entries, and every other key its old ones
 abbrev pub with_key : KeyBytes → OfKey → At → At
 with_key key new old = λ k. if is_key key k then new else old k

@@ -7,11 +7,11 @@ use Rattle.wkt_grammar.specs.declared.fault.SlotFault.TheVariants as slots
 use Rattle.wkt_crs.specs.declared.fault.Unspelled.TheVariants as refused
 use Rattle.wkt_crs.specs.declared.definition.DefinitionFault.{DefinitionFault}
 use Rattle.wkt_crs.specs.declared.definition.DefinitionFault.TheVariants as undefined
-use Rattle.reg_import.specs.declared.packed.Kind.{Kind}
-use Rattle.reg_import.specs.declared.packed.Kind.TheVariants as kind
+use Rattle.reg_import.specs.declared.packed.FaultKind.{FaultKind}
+use Rattle.reg_import.specs.declared.packed.FaultKind.TheVariants as kind
 
 -- the fault of this kind, with this slot, condition and place where it has one
-abbrev pub unpacked : Kind → SlotName → Condition → ℕ → DefinitionFault
+abbrev pub unpacked : FaultKind → SlotName → Condition → ℕ → DefinitionFault
 unpacked kind.TooLong s c place = undefined.Read (refused.Text text.TooLong)
 unpacked kind.NotUtf8 s c place = undefined.Read (refused.Text (text.NotUtf8 place))
 unpacked kind.BadByte s c place = undefined.Read (refused.Text (text.BadByte place))

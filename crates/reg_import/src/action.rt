@@ -3,7 +3,7 @@
 ghost use Rattle.std.specs.Prelude.{◌≡◌, ◌+◌, ◌<◌, ◌≤◌, ℕ, Some, IfSome, IfNone};
 ghost use Rattle.reg_state.specs.Runs.{id_at};
 ghost use Rattle.reg_import.specs.Imports.{least, any_entry, told_of, told_of_new, unless_spent, is_refused, is_spent};
-ghost use Rattle.reg_import.specs.Index.{bucket_seen};
+ghost use Rattle.reg_import.specs.Index.{entries_seen};
 ghost use Rattle.reg_import.specs.Lines.{is_known};
 ghost use Rattle.reg_import.specs.Summary.{told_by};
 
@@ -113,11 +113,11 @@ fn told_beside(
     differs: Differs,
     replica: Uuid,
     count: u64,
-    bucket: &EntriesOfKey,
+    entries: &EntriesOfKey,
     other: OpId,
 ) -> TextAction
     requires { 0 < count }
-    ensures { result ≡ told_of_new (Some other) differs (id_at replica count) (bucket_seen bucket.now) }
+    ensures { result ≡ told_of_new (Some other) differs (id_at replica count) (entries_seen entries.now) }
 {
     match differs {
         Differs::Refuse => TextAction::Refused(Problem::KeyTaken(other)),
@@ -126,10 +126,10 @@ fn told_beside(
             None => TextAction::Spent,
         },
         Differs::Revise => {
-            if bucket.ours {
+            if entries.ours {
                 return TextAction::Refused(Problem::KeyTaken(other));
             }
-            match number(replica, count, bucket.known.len()) {
+            match number(replica, count, entries.known.len()) {
                 Some(new) => TextAction::Revised(new),
                 None => TextAction::Spent,
             }
@@ -152,11 +152,11 @@ fn told_found(
     differs: Differs,
     replica: Uuid,
     count: u64,
-    bucket: &EntriesOfKey,
+    entries: &EntriesOfKey,
     found: Found,
 ) -> TextAction
     requires { 0 < count }
-    ensures { result ≡ told_by found (least any_entry (bucket_seen bucket.now).known) differs (id_at replica count) (bucket_seen bucket.now) }
+    ensures { result ≡ told_by found (least any_entry (entries_seen entries.now).known) differs (id_at replica count) (entries_seen entries.now) }
 {
     if let Some(entry) = found.valid {
         return TextAction::Same(entry);
@@ -164,23 +164,23 @@ fn told_found(
     if let Some(entry) = found.any {
         return TextAction::Superseded(entry);
     }
-    match bucket.least() {
+    match entries.least() {
         None => told_new(replica, count),
-        Some(other) => told_beside(differs, replica, count, bucket, other),
+        Some(other) => told_beside(differs, replica, count, entries, other),
     }
 }
 
-/// The action for a text. The bucket has the entries of its key, and this is the count of the next operation.
+/// The action for a text, given the entries of its key and the count of the next operation.
 pub fn told_of(
     differs: Differs,
     replica: Uuid,
     count: u64,
-    bucket: &EntriesOfKey,
+    entries: &EntriesOfKey,
     text: &Vec<u8>,
 ) -> TextAction
     requires { 0 < count }
-    ensures { result ≡ told_of differs (id_at replica count) (bucket_seen bucket.now) text.now.items }
+    ensures { result ≡ told_of differs (id_at replica count) (entries_seen entries.now) text.now.items }
 {
-    let found = bucket.find(text);
-    told_found(differs, replica, count, bucket, found)
+    let found = entries.find(text);
+    told_found(differs, replica, count, entries, found)
 }

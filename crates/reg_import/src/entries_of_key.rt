@@ -71,7 +71,7 @@ impl EntriesOfKey {
         }
     }
 
-    /// The bucket with one more entry, at the end.
+    /// These entries and one more, at the end.
     pub fn with(
         self,
         alloc: Global,

@@ -7,7 +7,7 @@ ghost use Rattle.reg_report.specs.Seen.{row_seen};
 ghost use Rattle.reg_import.specs.Readings.{readings, keys_in};
 ghost use Rattle.reg_import.specs.Gone.{HasKeys, IsGone, AreGone};
 
-use crate::index::{KeyText, text_of};
+use crate::index::{OwnedKeyText, text_of};
 use crate::reading::{FileText, ReadText};
 use crate::standing_entry::stands;
 use crs_search::is_alike;
@@ -19,7 +19,7 @@ use std::collections::BTreeSet;
 // Adds the key of a text, if it was read.
 fn put_key(
     alloc: Global,
-    keys: &mut BTreeSet<KeyText>,
+    keys: &mut BTreeSet<OwnedKeyText>,
     reading: &ReadText,
 ) -> Result<(), AllocError>
     ensures { (before : List KeyBytes) → HasKeys keys.old before → OnOk result (HasKeys keys.new (before ++ keys_in (reading.now ∷ []))) }
@@ -35,7 +35,7 @@ fn put_key(
 }
 
 // The keys of the texts.
-fn keys_of(alloc: Global, texts: &[FileText]) -> Result<BTreeSet<KeyText>, AllocError>
+fn keys_of(alloc: Global, texts: &[FileText]) -> Result<BTreeSet<OwnedKeyText>, AllocError>
     ensures { IfOk result (λ keys. HasKeys keys (keys_in (readings texts.now))) }
 {
     let mut keys = BTreeSet::new(alloc);
@@ -51,7 +51,7 @@ fn keys_of(alloc: Global, texts: &[FileText]) -> Result<BTreeSet<KeyText>, Alloc
 fn is_gone(
     alloc: Global,
     authority: &[u8],
-    keys: &BTreeSet<KeyText>,
+    keys: &BTreeSet<OwnedKeyText>,
     row: &Row,
 ) -> Result<bool, AllocError>
     ensures { (texts : List KeyBytes) → HasKeys keys.now texts → IfOk result (λ gone. IsTrue gone ↔ IsGone authority.now texts (row_seen row.now)) }
@@ -80,7 +80,7 @@ fn push_where(wanted: bool, rows: &mut Vec<Row>, row: Row) -> Result<(), AllocEr
 fn keep_gone(
     alloc: Global,
     authority: &[u8],
-    keys: &BTreeSet<KeyText>,
+    keys: &BTreeSet<OwnedKeyText>,
     rows: Vec<Row>,
 ) -> Result<Vec<Row>, AllocError>
     ensures { (texts : List KeyBytes) → HasKeys keys.now texts → IfOk result (λ gone. AreGone authority.now texts (map row_seen rows.items) (map row_seen gone.items)) }

@@ -43,19 +43,19 @@ pub enum ImportRefusal {
 
 /// A refused text: its index, from 0, and why it is rejected.
 #[derive(Clone, Copy, Debug, PartialEq, Eq)]
-pub struct Refused {
+pub struct RefusedText {
     pub at: usize,
     pub problem: Problem,
 }
 
 /// The first text that is refused.
-pub fn first_refused(told: &[PackedAction]) -> Option<Refused>
+pub fn first_refused(told: &[PackedAction]) -> Option<RefusedText>
     ensures some { IfSome result (λ f. IsFirstRefused told.now f.at f.problem) }
     ensures none { IfNone result (NoneRefused told.now) }
 {
     for (at, this) in told.iter().enumerate() {
         if let TextAction::Refused(problem) = this.get() {
-            return Some(Refused { at, problem });
+            return Some(RefusedText { at, problem });
         }
     }
     None
@@ -79,7 +79,7 @@ fn refusal_of(told: &[PackedAction], keep_going: bool) -> Option<ImportRefusal>
     ensures none { IfNone result (IsPassedPlan keep_going told.now) }
 {
     if !keep_going {
-        if let Some(Refused { at, problem }) = first_refused(told) {
+        if let Some(RefusedText { at, problem }) = first_refused(told) {
             return Some(ImportRefusal::Refused { at, problem });
         }
     }

@@ -5,7 +5,7 @@ ghost use Rattle.reg_report.specs.Conflicts.{bytes_of};
 ghost use Rattle.reg_report.specs.Seen.{row_seen};
 ghost use Rattle.reg_import.specs.declared.standing_entry.StandingEntry.{StandingEntry};
 ghost use Rattle.reg_import.specs.Known.{At, AreKnown, AreStanding, with_key, by_key};
-ghost use Rattle.reg_import.specs.Index.{key_bytes, bucket_seen, nothing_there, with_entry, Indexes};
+ghost use Rattle.reg_import.specs.Index.{key_bytes, entries_seen, nothing_there, with_entry, Indexes};
 
 use crate::entries_of_key::EntriesOfKey;
 use crate::standing_entry::{StandingEntry, known_of, standing};
@@ -17,52 +17,52 @@ use std::collections::BTreeMap;
 
 /// The bytes of a key's authority and code, which order keys.
 #[derive(PartialEq, Eq, PartialOrd, Ord, Drop)]
-pub struct KeyText {
+pub struct OwnedKeyText {
     pub authority: Vec<u8>,
     pub code: Vec<u8>,
 }
 
 /// The bytes of a key.
-pub fn text_of(alloc: Global, key: &Key) -> Result<KeyText, AllocError>
+pub fn text_of(alloc: Global, key: &Key) -> Result<OwnedKeyText, AllocError>
     ensures { IfOk result (λ text. key_bytes text ≡ bytes_of key.now) }
 {
-    Ok(KeyText {
+    Ok(OwnedKeyText {
         authority: Vec::from_slice(alloc, key.authority.as_bytes())?,
         code: Vec::from_slice(alloc, key.code.as_bytes())?,
     })
 }
 
-/// Removes the bucket of a key.
+/// Removes the entries of a key.
 pub fn take(
     alloc: Global,
-    index: &mut BTreeMap<KeyText, EntriesOfKey>,
-    key: &KeyText,
+    index: &mut BTreeMap<OwnedKeyText, EntriesOfKey>,
+    key: &OwnedKeyText,
 ) -> EntriesOfKey
-    ensures found { (at : At) → Indexes index.old at → bucket_seen result ≡ at (key_bytes key.now) }
+    ensures found { (at : At) → Indexes index.old at → entries_seen result ≡ at (key_bytes key.now) }
     ensures rest { (at : At) → Indexes index.old at → Indexes index.new (with_key (key_bytes key.now) nothing_there at) }
 {
     match index.remove(key) {
-        Some(bucket) => bucket,
+        Some(entries) => entries,
         None => EntriesOfKey::empty(alloc),
     }
 }
 
-/// Inserts the bucket of a key.
+/// Inserts the entries of a key.
 pub fn put(
-    index: &mut BTreeMap<KeyText, EntriesOfKey>,
-    key: KeyText,
-    bucket: EntriesOfKey,
+    index: &mut BTreeMap<OwnedKeyText, EntriesOfKey>,
+    key: OwnedKeyText,
+    entries: EntriesOfKey,
 ) -> Result<(), AllocError>
-    ensures { OnOk result ((at : At) → Indexes index.old at → Indexes index.new (with_key (key_bytes key) (bucket_seen bucket) at)) }
+    ensures { OnOk result ((at : At) → Indexes index.old at → Indexes index.new (with_key (key_bytes key) (entries_seen entries) at)) }
 {
-    let _ = index.insert(key, bucket)?;
+    let _ = index.insert(key, entries)?;
     Ok(())
 }
 
 // Inserts an entry.
 fn put_known(
     alloc: Global,
-    index: &mut BTreeMap<KeyText, EntriesOfKey>,
+    index: &mut BTreeMap<OwnedKeyText, EntriesOfKey>,
     entry: StandingEntry,
 ) -> Result<(), AllocError>
     ensures { OnOk result ((at : At) → Indexes index.old at → Indexes index.new (with_entry entry at)) }
@@ -70,13 +70,16 @@ fn put_known(
     let key = text_of(alloc, &entry.key)?;
     let before = take(alloc, index, &key);
     let ours = before.ours;
-    let bucket = before.with(alloc, entry, ours)?;
-    put(index, key, bucket)?;
+    let entries = before.with(alloc, entry, ours)?;
+    put(index, key, entries)?;
     Ok(())
 }
 
 // The index of the entries of rows.
-fn index_of_rows(alloc: Global, rows: &[Row]) -> Result<BTreeMap<KeyText, EntriesOfKey>, AllocError>
+fn index_of_rows(
+    alloc: Global,
+    rows: &[Row],
+) -> Result<BTreeMap<OwnedKeyText, EntriesOfKey>, AllocError>
     ensures { IfOk result (λ index. (es : List StandingEntry) × AreKnown (map row_seen rows.now) es × Indexes index (by_key es)) }
 {
     let mut index = BTreeMap::new(alloc);
@@ -93,7 +96,7 @@ fn index_of_rows(alloc: Global, rows: &[Row]) -> Result<BTreeMap<KeyText, Entrie
 pub fn index_of(
     alloc: Global,
     register: &Register,
-) -> Result<BTreeMap<KeyText, EntriesOfKey>, AllocError>
+) -> Result<BTreeMap<OwnedKeyText, EntriesOfKey>, AllocError>
     ensures { IfOk result (λ index. (es : List StandingEntry) × AreStanding register.now.ops es × Indexes index (by_key es)) }
 {
     let rows = standing(alloc, register)?;

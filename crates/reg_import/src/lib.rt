@@ -20,7 +20,9 @@ mod standing_entry;
 mod summary;
 
 pub use action::{Differs, Problem, TextAction};
-pub use import::{ImportRefusal, Imported, Refused, first_refused, import_texts, refused_at_once};
+pub use import::{
+    ImportRefusal, Imported, RefusedText, first_refused, import_texts, refused_at_once,
+};
 pub use listing::{Listing, lines_text};
 pub use packed::PackedFault;
 pub use packed_action::PackedAction;

@@ -13,7 +13,7 @@ use wkt_crs::{Condition, DefinitionFault, SlotFault, SlotName, TextFault, Unspel
 
 /// The kinds of faults.
 #[derive(Clone, Copy)]
-pub enum Kind {
+pub enum FaultKind {
     TooLong,
     NotUtf8,
     BadByte,
@@ -39,7 +39,7 @@ pub enum Kind {
 #[derive(Drop)]
 pub struct PackedFault {
     place: usize,
-    kind: Kind,
+    kind: FaultKind,
     slot: SlotName,
     condition: Condition,
 }
@@ -54,7 +54,7 @@ impl Model for PackedFault {
 }
 
 // A fault of a kind that names no slot and no condition.
-fn at(kind: Kind, place: usize) -> PackedFault
+fn at(kind: FaultKind, place: usize) -> PackedFault
     ensures { result ≡ unpacked kind Root C1 place }
 {
     PackedFault {
@@ -69,16 +69,16 @@ fn of_text(fault: TextFault) -> PackedFault
     ensures { result ≡ undefined.Read (refused.Text fault) }
 {
     match fault {
-        TextFault::TooLong => at(Kind::TooLong, 0),
-        TextFault::NotUtf8(place) => at(Kind::NotUtf8, place),
-        TextFault::BadByte(place) => at(Kind::BadByte, place),
-        TextFault::TextOpen(place) => at(Kind::TextOpen, place),
-        TextFault::BadNumber(place) => at(Kind::BadNumber, place),
-        TextFault::NumberRange(place) => at(Kind::NumberRange, place),
-        TextFault::Unexpected(place) => at(Kind::Unexpected, place),
-        TextFault::Depth(place) => at(Kind::Depth, place),
-        TextFault::EndEarly(place) => at(Kind::EndEarly, place),
-        TextFault::After(place) => at(Kind::After, place),
+        TextFault::TooLong => at(FaultKind::TooLong, 0),
+        TextFault::NotUtf8(place) => at(FaultKind::NotUtf8, place),
+        TextFault::BadByte(place) => at(FaultKind::BadByte, place),
+        TextFault::TextOpen(place) => at(FaultKind::TextOpen, place),
+        TextFault::BadNumber(place) => at(FaultKind::BadNumber, place),
+        TextFault::NumberRange(place) => at(FaultKind::NumberRange, place),
+        TextFault::Unexpected(place) => at(FaultKind::Unexpected, place),
+        TextFault::Depth(place) => at(FaultKind::Depth, place),
+        TextFault::EndEarly(place) => at(FaultKind::EndEarly, place),
+        TextFault::After(place) => at(FaultKind::After, place),
     }
 }
 
@@ -86,15 +86,15 @@ fn of_slot(fault: SlotFault) -> PackedFault
     ensures { result ≡ undefined.Read (refused.Slot fault) }
 {
     match fault {
-        SlotFault::NotHere(place) => at(Kind::NotHere, place),
+        SlotFault::NotHere(place) => at(FaultKind::NotHere, place),
         SlotFault::Missing(slot, place) => PackedFault {
             place,
-            kind: Kind::Missing,
+            kind: FaultKind::Missing,
             slot,
             condition: Condition::C1,
         },
-        SlotFault::NotCount(place) => at(Kind::NotCount, place),
-        SlotFault::WordUnknown(place) => at(Kind::WordUnknown, place),
+        SlotFault::NotCount(place) => at(FaultKind::NotCount, place),
+        SlotFault::WordUnknown(place) => at(FaultKind::WordUnknown, place),
     }
 }
 
@@ -106,7 +106,7 @@ fn of_unspelled(fault: Unspelled) -> PackedFault
         Unspelled::Slot(fault) => of_slot(fault),
         Unspelled::Broken { condition, place } => PackedFault {
             place,
-            kind: Kind::Broken,
+            kind: FaultKind::Broken,
             slot: SlotName::Root,
             condition,
         },
@@ -120,10 +120,10 @@ impl PackedFault {
     {
         match fault {
             DefinitionFault::Read(fault) => of_unspelled(fault),
-            DefinitionFault::NoIdentifier => at(Kind::NoIdentifier, 0),
-            DefinitionFault::CanonicalTooLong => at(Kind::CanonicalTooLong, 0),
-            DefinitionFault::NotCanonical => at(Kind::NotCanonical, 0),
-            DefinitionFault::Memory => at(Kind::Memory, 0),
+            DefinitionFault::NoIdentifier => at(FaultKind::NoIdentifier, 0),
+            DefinitionFault::CanonicalTooLong => at(FaultKind::CanonicalTooLong, 0),
+            DefinitionFault::NotCanonical => at(FaultKind::NotCanonical, 0),
+            DefinitionFault::Memory => at(FaultKind::Memory, 0),
         }
     }
 
@@ -142,29 +142,29 @@ impl PackedFault {
     }
 }
 
-fn unpack(kind: Kind, slot: SlotName, condition: Condition, place: usize) -> DefinitionFault
+fn unpack(kind: FaultKind, slot: SlotName, condition: Condition, place: usize) -> DefinitionFault
     ensures { result ≡ unpacked kind slot condition place }
 {
     match kind {
-        Kind::TooLong => text(TextFault::TooLong),
-        Kind::NotUtf8 => text(TextFault::NotUtf8(place)),
-        Kind::BadByte => text(TextFault::BadByte(place)),
-        Kind::TextOpen => text(TextFault::TextOpen(place)),
-        Kind::BadNumber => text(TextFault::BadNumber(place)),
-        Kind::NumberRange => text(TextFault::NumberRange(place)),
-        Kind::Unexpected => text(TextFault::Unexpected(place)),
-        Kind::Depth => text(TextFault::Depth(place)),
-        Kind::EndEarly => text(TextFault::EndEarly(place)),
-        Kind::After => text(TextFault::After(place)),
-        Kind::NotHere => of_slots(SlotFault::NotHere(place)),
-        Kind::Missing => of_slots(SlotFault::Missing(slot, place)),
-        Kind::NotCount => of_slots(SlotFault::NotCount(place)),
-        Kind::WordUnknown => of_slots(SlotFault::WordUnknown(place)),
-        Kind::Broken => DefinitionFault::Read(Unspelled::Broken { condition, place }),
-        Kind::NoIdentifier => DefinitionFault::NoIdentifier,
-        Kind::CanonicalTooLong => DefinitionFault::CanonicalTooLong,
-        Kind::NotCanonical => DefinitionFault::NotCanonical,
-        Kind::Memory => DefinitionFault::Memory,
+        FaultKind::TooLong => text(TextFault::TooLong),
+        FaultKind::NotUtf8 => text(TextFault::NotUtf8(place)),
+        FaultKind::BadByte => text(TextFault::BadByte(place)),
+        FaultKind::TextOpen => text(TextFault::TextOpen(place)),
+        FaultKind::BadNumber => text(TextFault::BadNumber(place)),
+        FaultKind::NumberRange => text(TextFault::NumberRange(place)),
+        FaultKind::Unexpected => text(TextFault::Unexpected(place)),
+        FaultKind::Depth => text(TextFault::Depth(place)),
+        FaultKind::EndEarly => text(TextFault::EndEarly(place)),
+        FaultKind::After => text(TextFault::After(place)),
+        FaultKind::NotHere => of_slots(SlotFault::NotHere(place)),
+        FaultKind::Missing => of_slots(SlotFault::Missing(slot, place)),
+        FaultKind::NotCount => of_slots(SlotFault::NotCount(place)),
+        FaultKind::WordUnknown => of_slots(SlotFault::WordUnknown(place)),
+        FaultKind::Broken => DefinitionFault::Read(Unspelled::Broken { condition, place }),
+        FaultKind::NoIdentifier => DefinitionFault::NoIdentifier,
+        FaultKind::CanonicalTooLong => DefinitionFault::CanonicalTooLong,
+        FaultKind::NotCanonical => DefinitionFault::NotCanonical,
+        FaultKind::Memory => DefinitionFault::Memory,
     }
 }
 

@@ -5,12 +5,12 @@ ghost use Rattle.reg_office.specs.Making.{greatest};
 ghost use Rattle.reg_import.specs.Known.{At};
 ghost use Rattle.reg_import.specs.Readings.{readings};
 ghost use Rattle.reg_import.specs.Imports.{entered, then_of, imports};
-ghost use Rattle.reg_import.specs.Index.{bucket_seen, Indexes};
+ghost use Rattle.reg_import.specs.Index.{entries_seen, Indexes};
 ghost use Rattle.reg_import.specs.Plans.{StepsOn, StepTold, Lists, Plans};
 
 use crate::action::{Differs, Problem, TextAction, told_of};
 use crate::entries_of_key::EntriesOfKey;
-use crate::index::{KeyText, index_of, put, take, text_of};
+use crate::index::{OwnedKeyText, index_of, put, take, text_of};
 use crate::making::{count_of, push_ops};
 use crate::packed_action::PackedAction;
 use crate::reading::{FileText, ReadText};
@@ -44,20 +44,20 @@ pub struct Rules<'a> {
 
 /// The state of an import: the entries of each key, and the operations so far.
 #[derive(Drop)]
-pub struct Made {
-    pub index: BTreeMap<KeyText, EntriesOfKey>,
+pub struct ImportState {
+    pub index: BTreeMap<OwnedKeyText, EntriesOfKey>,
     pub ops: Vec<Op>,
 }
 
 // These entries and a new one of this command.
 fn with_entered(
     alloc: Global,
-    bucket: EntriesOfKey,
+    entries: EntriesOfKey,
     entry: OpId,
     key: &Key,
     definition: &Definition,
 ) -> Result<EntriesOfKey, AllocError>
-    ensures { IfOk result (λ b. bucket_seen b ≡ record { known = bucket.known.items ++ entered entry key.now definition.now ∷ []; ours = true }) }
+    ensures { IfOk result (λ b. entries_seen b ≡ record { known = entries.known.items ++ entered entry key.now definition.now ∷ []; ours = true }) }
 {
     let key = key.try_clone(alloc)?;
     let definition = definition.try_clone(alloc)?;
@@ -67,25 +67,25 @@ fn with_entered(
         definition,
         valid: true,
     };
-    let bucket = bucket.with(alloc, entry, true)?;
-    Ok(bucket)
+    let entries = entries.with(alloc, entry, true)?;
+    Ok(entries)
 }
 
-// The bucket of a text's key after this action.
+// The entries of a text's key after this action.
 fn then_of(
     alloc: Global,
     told: &TextAction,
     key: &Key,
     definition: &Definition,
-    bucket: EntriesOfKey,
+    entries: EntriesOfKey,
 ) -> Result<EntriesOfKey, AllocError>
-    ensures { IfOk result (λ b. bucket_seen b ≡ then_of told.now key.now definition.now (bucket_seen bucket)) }
+    ensures { IfOk result (λ b. entries_seen b ≡ then_of told.now key.now definition.now (entries_seen entries)) }
 {
     match told {
-        TextAction::Same(_) => Ok(bucket.found()),
-        TextAction::Superseded(_) => Ok(bucket.found()),
-        TextAction::Entered(entry) => with_entered(alloc, bucket, *entry, key, definition),
-        TextAction::Beside(entry) => with_entered(alloc, bucket, *entry, key, definition),
+        TextAction::Same(_) => Ok(entries.found()),
+        TextAction::Superseded(_) => Ok(entries.found()),
+        TextAction::Entered(entry) => with_entered(alloc, entries, *entry, key, definition),
+        TextAction::Beside(entry) => with_entered(alloc, entries, *entry, key, definition),
         TextAction::Revised(entry) => with_entered(
             alloc,
             EntriesOfKey::empty(alloc),
@@ -93,13 +93,13 @@ fn then_of(
             key,
             definition,
         ),
-        TextAction::Refused(_) => Ok(bucket),
-        TextAction::Spent => Ok(bucket),
+        TextAction::Refused(_) => Ok(entries),
+        TextAction::Spent => Ok(entries),
     }
 }
 
 // The number of the next operation.
-fn count_after(rules: &Rules<'_>, made: &Made) -> u64
+fn count_after(rules: &Rules<'_>, made: &ImportState) -> u64
     requires { rules.now.first + length made.now.ops.items ≤ 4294967296 }
     ensures { result ≡ rules.now.first + length made.now.ops.items }
 {
@@ -116,7 +116,7 @@ fn spelled(alloc: Global, definition: &Definition) -> Result<Vec<u8>, AllocError
 fn step_defined(
     alloc: Global,
     rules: &Rules<'_>,
-    made: &mut Made,
+    made: &mut ImportState,
     definition: &Definition,
     key: &Key,
 ) -> Result<TextAction, AllocError>
@@ -127,10 +127,10 @@ fn step_defined(
 {
     let count = count_after(rules, made);
     let text = text_of(alloc, key)?;
-    let bucket = take(alloc, &mut made.index, &text);
+    let entries = take(alloc, &mut made.index, &text);
     let replica = rules.replica;
     let spelled = spelled(alloc, definition)?;
-    let told = told_of(rules.differs, replica, count, &bucket, &spelled);
+    let told = told_of(rules.differs, replica, count, &entries, &spelled);
     push_ops(
         alloc,
         &mut made.ops,
@@ -139,9 +139,9 @@ fn step_defined(
         rules.note,
         &told,
         definition,
-        &bucket.known,
+        &entries.known,
     )?;
-    let after = then_of(alloc, &told, key, definition, bucket)?;
+    let after = then_of(alloc, &told, key, definition, entries)?;
     put(&mut made.index, text, after)?;
     Ok(told)
 }
@@ -158,7 +158,7 @@ fn push_action(told: &mut Vec<PackedAction>, action: TextAction) -> Result<(), A
 fn step(
     alloc: Global,
     rules: &Rules<'_>,
-    made: &mut Made,
+    made: &mut ImportState,
     reading: &ReadText,
     told: &mut Vec<PackedAction>,
 ) -> Result<(), AllocError>
@@ -184,7 +184,7 @@ fn step(
 // Imports one text after another.
 fn plan_over(
     alloc: Global,
-    index: BTreeMap<KeyText, EntriesOfKey>,
+    index: BTreeMap<OwnedKeyText, EntriesOfKey>,
     rules: &Rules<'_>,
     texts: &[FileText],
 ) -> Result<Plan, AllocError>
@@ -197,13 +197,13 @@ fn plan_over(
 {
     let mut told = Vec::with_capacity(alloc, texts.len())?;
     let ops = Vec::new(alloc);
-    let mut made = Made { index, ops };
+    let mut made = ImportState { index, ops };
     let mut rest = texts;
     while let Some((text, others)) = rest.split_first() {
         step(alloc, rules, &mut made, &text.reading, &mut told)?;
         rest = others;
     }
-    let Made { index: _, ops } = made;
+    let ImportState { index: _, ops } = made;
     Ok(Plan { told, ops })
 }
 

@@ -118,11 +118,11 @@ twice true v new mid old e f = ap rows_in e
 twice false v new mid old e f = ap rows_in (e ∙ f)
 
 -- what is found under a spelling
-pub found_in : (index : KeyIndex) (rs some : List Row) (q : Spelling) (text : List ℕ) (found : Option (Vec MadeRow)) → IsIndex index rs → found ≡ get spelling_cmp index.buckets q → q.bytes.items ≡ text → some ≡ rows_in found → AreSpelled text rs some
+pub found_in : (index : KeyIndex) (rs some : List Row) (q : Spelling) (text : List ℕ) (found : Option (Vec MadeRow)) → IsIndex index rs → found ≡ get spelling_cmp index.by_key q → q.bytes.items ≡ text → some ≡ rows_in found → AreSpelled text rs some
 found_in index rs some q text found is e t s =
     let chosen : AreChosen (IsSpelled text) rs some =
     subst (λ l. AreChosen (IsSpelled text) rs l) (sym (s ∙ ap rows_in e))
-    (subst (λ u. AreChosen (IsSpelled u) rs (rows_in (get spelling_cmp index.buckets q))) t (is.holds q)) in
+    (subst (λ u. AreChosen (IsSpelled u) rs (rows_in (get spelling_cmp index.by_key q))) t (is.holds q)) in
     record { order = chosen_ascend (IsSpelled text) rs some chosen is.order; chosen = chosen }
 
 -- ---- what a word names among the rows that are spelled as it

@@ -44,7 +44,7 @@ Holds m rs = (q : Spelling) → AreChosen (IsSpelled q.bytes.items) rs (rows_in 
 -- an index of these rows, which are ordered by entry
 pub record IsIndex (index : KeyIndex) (rs : List Row) : Type 0 where
   pub order : Ascends row_cmp rs
-  pub holds : Holds index.buckets rs
+  pub holds : Holds index.by_key rs
 
 -- ---- what is found
 

@@ -26,7 +26,7 @@ pub struct Spelling {
 /// The rows of each key, by entry. Keys that differ only in the case of letters A to Z share their rows.
 #[derive(Drop)]
 pub struct KeyIndex {
-    pub buckets: BTreeMap<Spelling, Vec<Row>>,
+    pub by_key: BTreeMap<Spelling, Vec<Row>>,
 }
 
 fn spelled(alloc: Global, word: &[u8]) -> Result<Spelling, AllocError>
@@ -56,11 +56,11 @@ fn spelling_of_row(alloc: Global, row: &Row) -> Result<Spelling, AllocError>
 }
 
 // Removes the rows of a key.
-fn take(alloc: Global, buckets: &mut BTreeMap<Spelling, Vec<Row>>, key: &Spelling) -> Vec<Row>
-    ensures found { map row_seen result.items ≡ rows_in (get spelling_cmp buckets.old key.now) }
-    ensures rest { (q : Spelling) → get spelling_cmp buckets.new q ≡ cond (is_eq (spelling_cmp key.now q)) None (get spelling_cmp buckets.old q) }
+fn take(alloc: Global, by_key: &mut BTreeMap<Spelling, Vec<Row>>, key: &Spelling) -> Vec<Row>
+    ensures found { map row_seen result.items ≡ rows_in (get spelling_cmp by_key.old key.now) }
+    ensures rest { (q : Spelling) → get spelling_cmp by_key.new q ≡ cond (is_eq (spelling_cmp key.now q)) None (get spelling_cmp by_key.old q) }
 {
-    match buckets.remove(key) {
+    match by_key.remove(key) {
         Some(rows) => rows,
         None => Vec::new(alloc),
     }
@@ -69,15 +69,15 @@ fn take(alloc: Global, buckets: &mut BTreeMap<Spelling, Vec<Row>>, key: &Spellin
 // Puts a row after those of its key.
 fn put_row(
     alloc: Global,
-    buckets: &mut BTreeMap<Spelling, Vec<Row>>,
+    by_key: &mut BTreeMap<Spelling, Vec<Row>>,
     row: Row,
 ) -> Result<(), AllocError>
-    ensures { (rs : List OneRow) → Holds buckets.old rs → OnOk result (Holds buckets.new (rs ++ row_seen row ∷ [])) }
+    ensures { (rs : List OneRow) → Holds by_key.old rs → OnOk result (Holds by_key.new (rs ++ row_seen row ∷ [])) }
 {
     let spelling = spelling_of_row(alloc, &row)?;
-    let mut rows = take(alloc, buckets, &spelling);
+    let mut rows = take(alloc, by_key, &spelling);
     rows.push(row)?;
-    let _ = buckets.insert(spelling, rows)?;
+    let _ = by_key.insert(spelling, rows)?;
     Ok(())
 }
 
@@ -86,11 +86,11 @@ pub fn index_of(alloc: Global, rows: Vec<Row>) -> Result<KeyIndex, AllocError>
     requires { Ascends row_cmp (map row_seen rows.items) }
     ensures { IfOk result (λ index. IsIndex index (map row_seen rows.items)) }
 {
-    let mut buckets = BTreeMap::new(alloc);
+    let mut by_key = BTreeMap::new(alloc);
     for row in rows {
-        put_row(alloc, &mut buckets, row)?;
+        put_row(alloc, &mut by_key, row)?;
     }
-    Ok(KeyIndex { buckets })
+    Ok(KeyIndex { by_key })
 }
 
 /// The rows whose keys are spelled as the word, by entry. All rows whose key it names are among them.
@@ -102,7 +102,7 @@ pub fn rows_of_word<'a>(
     ensures { (rs : List OneRow) → IsIndex index.now rs → IfOk result (λ found. AreSpelled (lower word.now) rs (map row_seen found.now)) }
 {
     let spelling = spelled(alloc, word)?;
-    match index.buckets.get(&spelling) {
+    match index.by_key.get(&spelling) {
         Some(rows) => Ok(rows.as_slice()),
         None => Ok(&[]),
     }
@@ -117,7 +117,7 @@ pub fn rows_of_key<'a>(
     ensures { (rs : List OneRow) → IsIndex index.now rs → IfOk result (λ found. AreSpelled (spelling (bytes_of key.now)) rs (map row_seen found.now)) }
 {
     let spelling = spelling_of(alloc, key)?;
-    match index.buckets.get(&spelling) {
+    match index.by_key.get(&spelling) {
         Some(rows) => Ok(rows.as_slice()),
         None => Ok(&[]),
     }

@@ -12,7 +12,7 @@ ghost use Rattle.reg_news.specs.News.{has_status, count_of, CountsGaps, AreInCon
 
 use crate::keys::{fresh, push_key};
 use crs_value::Key;
-use reg_disorder::{Disorder, Listed, amiss};
+use reg_disorder::{Disorder, ListedEntry, amiss};
 use reg_op::Status;
 use reg_report::{Conflict, Row, awaited, conflicts, gaps, rows};
 use reg_state::Register;
@@ -95,7 +95,7 @@ fn conflict_keys(alloc: Global, register: &Register) -> Result<Vec<Key>, AllocEr
     Ok(keys)
 }
 
-fn keys_of_listed(alloc: Global, listed: &[Listed]) -> Result<Vec<Key>, AllocError>
+fn keys_of_listed(alloc: Global, listed: &[ListedEntry]) -> Result<Vec<Key>, AllocError>
     ensures { IfOk result (λ keys. map bytes_of keys.items ≡ map (λ l. (listed_seen l).key) listed.now) }
 {
     let mut keys = Vec::new(alloc);

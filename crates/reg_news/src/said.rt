@@ -7,7 +7,7 @@ use std::fmt::{self, Write as _};
 use std::str;
 use text_hidden::is_hidden;
 
-// The keys that are named; of others only the number is told.
+// The keys that are named; of others, only the number is printed.
 const NAMED: usize = 3;
 
 // The characters of an authority or a code that are shown.

@@ -46,7 +46,7 @@ impl fmt::Display for NoteFault {
 }
 
 #[derive(Drop)]
-struct Written {
+struct NoteBytes {
     bytes: Vec<u8>,
     ghost utf8: { is_utf8 bytes.items ≡ true },
     ghost short: { length bytes.items ≤ 200 },
@@ -55,7 +55,7 @@ struct Written {
 /// The note of an operation: UTF-8 of at most 200 bytes. Copies share it, and an empty note allocates nothing.
 #[derive(Drop)]
 pub struct Note {
-    written: Option<Rc<Written>>,
+    written: Option<Rc<NoteBytes>>,
 }
 
 impl Model for Note {
@@ -146,6 +146,6 @@ fn copied(alloc: Global, bytes: &[u8]) -> Result<Note, AllocError>
     ensures { IfOk result (λ note. note ≡ bytes.now) }
 {
     let bytes = Vec::from_slice(alloc, bytes)?;
-    let written = Some(Rc::new(alloc, Written { bytes })?);
+    let written = Some(Rc::new(alloc, NoteBytes { bytes })?);
     Ok(Note { written })
 }

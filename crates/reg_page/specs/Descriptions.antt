@@ -17,7 +17,7 @@ use Rattle.reg_op.specs.Operations.{Op, Ops}
 use Rattle.reg_op.specs.Kept.{entering}
 use Rattle.reg_op.specs.Status.{is_enter}
 use Rattle.crs_value.specs.declared.key.Key.{Key}
-use Rattle.reg_page.specs.declared.described.System.{System}
+use Rattle.reg_page.specs.declared.described.DescribedSystem.{DescribedSystem}
 use Rattle.reg_page.specs.declared.described.Described.{Described}
 use Rattle.crs_sense.specs.declared.rule.Rule.{Rule}
 use Rattle.reg_lint.specs.Questions.{questions_of}
@@ -28,7 +28,7 @@ use Rattle.reg_page.specs.Boxes.{box_seen, boxes_in}
 use Rattle.reg_page.specs.Codes.{code_cmp}
 
 -- what the page shows of a reference system: its name, boxes, areas, kind and indented text, and what is asked by these rules
-pub record IsSystemOf (rules : List Rule) (crs : Crs) (d : System) : Type 0 where
+pub record IsSystemOf (rules : List Rule) (crs : Crs) (d : DescribedSystem) : Type 0 where
   pub name : d.name.items ≡ (name_of crs.parts).bytes
   pub boxes : map box_seen d.boxes.items ≡ boxes_in (usages_of crs.parts)
   pub areas : map (λ (a : Vec ℕ). a.items) d.areas.items ≡ areas_in (usages_of crs.parts)
@@ -37,7 +37,7 @@ pub record IsSystemOf (rules : List Rule) (crs : Crs) (d : System) : Type 0 wher
   pub questions : map (λ (q : Vec ℕ). q.items) d.questions.items ≡ questions_of rules crs.parts
 
 -- it describes the reference system that the definition spells
-pub record IsSystemIn (rules : List Rule) (definition : List ℕ) (d : System) : Type 0 where
+pub record IsSystemIn (rules : List Rule) (definition : List ℕ) (d : DescribedSystem) : Type 0 where
   pub crs : Crs
   pub spelled : IsCrsOf crs definition
   pub shows : IsSystemOf rules crs d

@@ -6,7 +6,7 @@ use Rattle.uuid.specs.Text.{hyphenated_text, lower}
 use Rattle.office_names.specs.declared.names.Name.{Name}
 use Rattle.office_names.specs.Shown as office
 use Rattle.html_page.specs.Pieces.{html}
-use Rattle.html_page.specs.declared.head.Figures.{Figures}
+use Rattle.html_page.specs.declared.head.PageFigures.{PageFigures}
 use Rattle.html_page.specs.declared.standing.Standing.{Standing}
 use Rattle.html_page.specs.declared.standing.Standing.TheVariants as standing
 use Rattle.html_page.specs.Shown as shown
@@ -147,7 +147,7 @@ is_retired standing.Valid = false
 is_retired standing.Superseded = false
 is_retired standing.Retired = true
 
-abbrev pub figures_of : Content → List Described → List Contested → List Id → List Gap → Figures
+abbrev pub figures_of : Content → List Described → List Contested → List Id → List Gap → PageFigures
 figures_of x described cs is gs = record {
   entries = length described;
   valid = count_by (λ (t : Described). is_valid (standing_of (status x.ops t.id))) described;

@@ -2,13 +2,13 @@
 use Rattle.std.specs.Prelude.{ℕ, List, [], ◌∷◌, ◌++◌}
 use Rattle.std.specs.List.{flat_map}
 use Rattle.html_page.specs.Pieces.{Piece, Markup}
-use Rattle.html_page.specs.declared.head.Figures.{Figures}
+use Rattle.html_page.specs.declared.head.PageFigures.{PageFigures}
 use Rattle.html_page.specs.declared.markup.TheConstants.{AFTER_FIGURES, CONFLICTS_START, CONFLICTS_END, AWAITED_START, AWAITED_END, GAPS_START, GAPS_END, ENTRIES_START, ENTRIES_END, RETIRED_START, RETIRED_END}
 use Rattle.html_page.specs.Shown.{Conflict, Gap, Entry}
 use Rattle.html_page.specs.Templates.{head, figures, section, conflict, awaited, gap, entry, end}
 
 -- the title and the figures
-abbrev pub top : List ℕ → Figures → List Piece
+abbrev pub top : List ℕ → PageFigures → List Piece
 top title f = head title ++ figures f ++ (Markup AFTER_FIGURES.now ∷ [])
 
 -- the conflicts, the awaited ids and the gaps

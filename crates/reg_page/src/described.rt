@@ -20,7 +20,7 @@ use wkt_crs::{Definition, write_pretty};
 
 /// What the page shows of a reference system.
 #[derive(Drop)]
-pub struct System {
+pub struct DescribedSystem {
     pub name: Vec<u8>,
     pub boxes: Vec<Edges>,
     pub areas: Vec<Vec<u8>>,
@@ -37,11 +37,11 @@ pub struct Described {
     pub id: OpId,
     pub authority: Vec<u8>,
     pub code: Vec<u8>,
-    pub system: System,
+    pub system: DescribedSystem,
     pub note: Vec<u8>,
 }
 
-fn system_of(alloc: Global, rules: &[Rule], crs: &Crs) -> Result<System, AllocError>
+fn system_of(alloc: Global, rules: &[Rule], crs: &Crs) -> Result<DescribedSystem, AllocError>
     ensures { IfOk result (IsSystemOf rules.now crs.now) }
 {
     let name = Vec::from_slice(alloc, crs.name().as_bytes())?;
@@ -50,7 +50,7 @@ fn system_of(alloc: Global, rules: &[Rule], crs: &Crs) -> Result<System, AllocEr
     let mut text = write_pretty(alloc, crs)?;
     text.shrink_to_fit();
     let questions = questions(alloc, rules, crs.parts())?;
-    Ok(System {
+    Ok(DescribedSystem {
         name,
         boxes,
         areas,
@@ -60,7 +60,11 @@ fn system_of(alloc: Global, rules: &[Rule], crs: &Crs) -> Result<System, AllocEr
     })
 }
 
-fn system_in(alloc: Global, rules: &[Rule], definition: &Definition) -> Result<System, AllocError>
+fn system_in(
+    alloc: Global,
+    rules: &[Rule],
+    definition: &Definition,
+) -> Result<DescribedSystem, AllocError>
     ensures { IfOk result (IsSystemIn rules.now definition.now) }
 {
     let crs = definition.crs(alloc)?;

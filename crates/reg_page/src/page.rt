@@ -25,7 +25,7 @@ use crate::table::list_table;
 use crate::writing::write_blocks;
 use byte_io::Sink;
 use html_page::markup::AFTER_FIGURES;
-use html_page::{Figures, push_figures, push_head, push_mark};
+use html_page::{PageFigures, push_figures, push_head, push_mark};
 use office_names::Name;
 use reg_engine::CliFault;
 use reg_lint::Rule;
@@ -40,10 +40,10 @@ fn figures_of(
     conflicts: &[Conflict],
     awaited: &[OpId],
     gaps: &[Gap],
-) -> Figures
+) -> PageFigures
     ensures { result ≡ figures_of register.now described.now (map conflict_seen conflicts.now) awaited.now gaps.now }
 {
-    Figures {
+    PageFigures {
         entries: described.len(),
         valid: count_valid(register, described),
         superseded: count_superseded(register, described),
@@ -59,7 +59,7 @@ fn push_top(
     alloc: Global,
     page: &mut Vec<u8>,
     title: &[u8],
-    figures: &Figures,
+    figures: &PageFigures,
 ) -> Result<(), AllocError>
     ensures { OnOk result (Appends page.old.items page.new.items (top title.now figures.now)) }
 {
@@ -107,7 +107,7 @@ fn blocks_of<'a>(
 }
 
 // What stands before the blocks.
-fn top_of(alloc: Global, title: &[u8], figures: &Figures) -> Result<Vec<u8>, AllocError>
+fn top_of(alloc: Global, title: &[u8], figures: &PageFigures) -> Result<Vec<u8>, AllocError>
     ensures { IfOk result (λ made. made.items ≡ html (top title.now figures.now)) }
 {
     let mut page = Vec::new(alloc);

@@ -18,7 +18,7 @@ use Rattle.reg_query.specs.Asked.{is_asked, is_logged, AreWanted}
 use Rattle.reg_query.specs.Log.{subject}
 use Rattle.reg_query.specs.declared.log.asked.Asked.{Asked}
 use Rattle.reg_query.specs.declared.log.asked.Asked.TheVariants.{All, These}
-use Rattle.reg_query.specs.declared.log.asked.Wanted.TheVariants as wanted
+use Rattle.reg_query.specs.declared.log.asked.WantedEntries.TheVariants as wanted
 use Rattle.std.specs.Global.{Vec}
 
 -- ---- a binary search

@@ -7,7 +7,7 @@ use Rattle.std.specs.declared.option.Option.{Option}
 use Rattle.reg_op.specs.Rows.{Row}
 use Rattle.reg_op.specs.declared.status.Status.{Status}
 use Rattle.reg_op.specs.declared.status.Status.TheVariants.{Valid, Superseded, Retired}
-use Rattle.reg_query.specs.declared.figures.register.Counts.{Counts}
+use Rattle.reg_query.specs.declared.figures.register.EntryCounts.{EntryCounts}
 use Rattle.reg_query.specs.Figures.{is_status, status_in, CountStatuses, AreCounts}
 
 pub count_map : {A B : Type 0} (f : A → B) (p : B → Bool) (xs : List A) → count_by (λ (x : A). p (f x)) xs ≡ count_by p (map f xs)
@@ -18,7 +18,7 @@ count_map {A = A} {B = B} f p (x ∷ xs) =
     ∙ sym (sum_by-cons (λ (y : B). cond (p y) 1 0) (f x) (map f xs))
 
 -- counts of the statuses of rows are counts of the rows
-pub row_counts : (rs : List Row) (statuses : List (Option Status)) (c : Counts) → statuses ≡ map status_in rs → CountStatuses statuses c → AreCounts rs c
+pub row_counts : (rs : List Row) (statuses : List (Option Status)) (c : EntryCounts) → statuses ≡ map status_in rs → CountStatuses statuses c → AreCounts rs c
 row_counts rs statuses c e h = record {
   entries = h.entries ∙ ap length e ∙ length-map rs status_in;
   valid = h.valid ∙ ap (λ l. count_by (is_status Valid) l) e ∙ sym (count_map status_in (is_status Valid) rs);

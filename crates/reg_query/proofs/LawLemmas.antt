@@ -14,7 +14,7 @@ use Rattle.reg_report.proofs.ConflictLemmas.{none_in, in_head}
 use Rattle.reg_report.proofs.OrderLemmas.{same_elements}
 use Rattle.reg_report.proofs.ReportLemmas.{one_line, same_lines}
 use Rattle.reg_report.proofs.RowLemmas.{row_total, rows_ascend}
-use Rattle.reg_query.specs.declared.diff.change.Change.{Change as Declared}
+use Rattle.reg_query.specs.declared.diff.change.SignedRow.{SignedRow as Declared}
 use Rattle.reg_query.specs.declared.diff.change.Sign.{Sign}
 use Rattle.reg_query.specs.declared.diff.change.Sign.TheVariants.{Gone, Come}
 use Rattle.reg_query.specs.Changes.{Change, sign_text, IsChange, AreChanges}

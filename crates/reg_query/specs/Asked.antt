@@ -7,8 +7,8 @@ use Rattle.reg_op.specs.Operations.{Op}
 use Rattle.reg_query.specs.Log.{subject}
 use Rattle.reg_query.specs.declared.log.asked.Asked.{Asked}
 use Rattle.reg_query.specs.declared.log.asked.Asked.TheVariants.{All, These}
-use Rattle.reg_query.specs.declared.log.asked.Wanted.{Wanted}
-use Rattle.reg_query.specs.declared.log.asked.Wanted.TheVariants as wanted
+use Rattle.reg_query.specs.declared.log.asked.WantedEntries.{WantedEntries}
+use Rattle.reg_query.specs.declared.log.asked.WantedEntries.TheVariants as wanted
 
 -- the operations of the entry are listed
 abbrev pub is_asked : Asked → Id → Bool
@@ -29,7 +29,7 @@ pub record AreInOrder (ids ordered : List Id) : Type 0 where
   pub order : IsSorted id_cmp ordered
 
 -- the requested entries, in order
-abbrev pub AreWanted : Asked → Wanted → Type 0
+abbrev pub AreWanted : Asked → WantedEntries → Type 0
 AreWanted All wanted.All = Unit {0}
 AreWanted All (wanted.These ids) = ⊥
 AreWanted (These entries) wanted.All = ⊥

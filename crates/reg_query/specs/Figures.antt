@@ -12,8 +12,8 @@ use Rattle.reg_report.specs.Conflicts.{Contested, AreConflicts}
 use Rattle.reg_report.specs.Gaps.{AreGaps}
 use Rattle.reg_disorder.specs.declared.disorder.Disorder.TheVariants.{Duplicates, Dangling, Withdrawn}
 use Rattle.reg_disorder.specs.Disorders.{CountsAmiss}
-use Rattle.reg_query.specs.declared.figures.register.Amiss.{Amiss}
-use Rattle.reg_query.specs.declared.figures.register.Counts.{Counts}
+use Rattle.reg_query.specs.declared.figures.register.DisorderCounts.{DisorderCounts}
+use Rattle.reg_query.specs.declared.figures.register.EntryCounts.{EntryCounts}
 use Rattle.reg_query.specs.declared.figures.register.Figures.{Figures}
 
 abbrev pub is_status : Status → Option Status → Bool
@@ -29,14 +29,14 @@ abbrev pub has_status : Status → Row → Bool
 has_status status r = is_status status r.status
 
 -- the number of entries with these statuses, in all and of each
-pub record CountStatuses (statuses : List (Option Status)) (c : Counts) : Type 0 where
+pub record CountStatuses (statuses : List (Option Status)) (c : EntryCounts) : Type 0 where
   pub entries : c.entries ≡ length statuses
   pub valid : c.valid ≡ count_by (is_status Valid) statuses
   pub superseded : c.superseded ≡ count_by (is_status Superseded) statuses
   pub retired : c.retired ≡ count_by (is_status Retired) statuses
 
 -- the number of rows, in all and of each status
-pub record AreCounts (rs : List Row) (c : Counts) : Type 0 where
+pub record AreCounts (rs : List Row) (c : EntryCounts) : Type 0 where
   pub entries : c.entries ≡ length rs
   pub valid : c.valid ≡ count_by (has_status Valid) rs
   pub superseded : c.superseded ≡ count_by (has_status Superseded) rs
@@ -51,7 +51,7 @@ abbrev pub CountsGaps : Ids → ℕ → Type 0
 CountsGaps seen n = (gs : List Gap) × AreGaps seen gs × (n ≡ length gs)
 
 -- the numbers of what is not in order, in each way
-pub record AreCountsAmiss (rs : List Row) (a : Amiss) : Type 0 where
+pub record AreCountsAmiss (rs : List Row) (a : DisorderCounts) : Type 0 where
   pub duplicates : CountsAmiss Duplicates rs a.duplicates
   pub dangling : CountsAmiss Dangling rs a.dangling
   pub withdrawn : CountsAmiss Withdrawn rs a.withdrawn

@@ -5,7 +5,7 @@ mod comparing;
 mod lines;
 mod walk;
 
-pub use change::{Change, Sign};
-pub use comparing::{Comparison, compare};
+pub use change::{Sign, SignedRow};
+pub use comparing::{RowDiff, compare};
 pub use lines::changes_text;
 pub use walk::changes;

@@ -7,7 +7,7 @@ mod find;
 pub mod laws;
 mod log;
 
-pub use diff::{Change, Comparison, Sign, changes, changes_text, compare};
+pub use diff::{RowDiff, Sign, SignedRow, changes, changes_text, compare};
 pub use figures::{Figures, OfficeFigures, figures_of, offices, offices_text};
 pub use find::{Query, Wanted, found, found_ids, found_text};
 pub use log::{Asked, first_unlogged, log_text};

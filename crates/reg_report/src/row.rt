@@ -15,7 +15,7 @@ ghost use Rattle.reg_report.specs.Seen.{row_seen};
 
 use crate::distinct::distinct;
 use crate::entry::is_retired;
-use crate::supersession::{Pair, newer_among, pairs_of};
+use crate::supersession::{Supersession, newer_among, pairs_of};
 use reg_op::{Definition, Op, OpBody, OpId, Status};
 use reg_state::Register;
 use std::alloc::{AllocError, Global};
@@ -55,12 +55,12 @@ fn push_row(
     alloc: Global,
     rows: &mut Vec<Row>,
     register: &Register,
-    pairs: &[Pair],
+    pairs: &[Supersession],
     op: &Op,
 ) -> Result<(), AllocError>
     requires there { set.contains register.now.ops op.now ≡ true }
     requires sorted { IsSorted pair_cmp pairs.now }
-    requires pairs { (t : Pair → Bool) → list_any t pairs.now ≡ list_any t (flat_map (λ (o : Operation). pairs_in o.body) (set.items register.now.ops)) }
+    requires pairs { (t : Supersession → Bool) → list_any t pairs.now ≡ list_any t (flat_map (λ (o : Operation). pairs_in o.body) (set.items register.now.ops)) }
     ensures { OnOk result (map row_seen rows.new.items ≡ map row_seen rows.old.items ++ rows_at register.now.ops op.now.id op.now.body) }
 {
     let definition = match op.body() {
@@ -76,13 +76,13 @@ fn push_row(
 fn row_of(
     alloc: Global,
     register: &Register,
-    pairs: &[Pair],
+    pairs: &[Supersession],
     entry: OpId,
     definition: &Definition,
 ) -> Result<Row, AllocError>
     requires entered { enters register.now.ops entry ≡ true }
     requires sorted { IsSorted pair_cmp pairs.now }
-    requires pairs { (t : Pair → Bool) → list_any t pairs.now ≡ list_any t (flat_map (λ (o : Operation). pairs_in o.body) (set.items register.now.ops)) }
+    requires pairs { (t : Supersession → Bool) → list_any t pairs.now ≡ list_any t (flat_map (λ (o : Operation). pairs_in o.body) (set.items register.now.ops)) }
     ensures { IfOk result (λ row. row_seen row ≡ record { entry = entry; definition = definition.now; status = status register.now.ops entry; newer = set.items (newer_of register.now.ops entry) }) }
 {
     let Some(status) = register.status(entry) else {
@@ -102,12 +102,12 @@ fn row_of(
 fn newer_of(
     alloc: Global,
     register: &Register,
-    pairs: &[Pair],
+    pairs: &[Supersession],
     entry: OpId,
 ) -> Result<Vec<OpId>, AllocError>
     requires entered { enters register.now.ops entry ≡ true }
     requires sorted { IsSorted pair_cmp pairs.now }
-    requires pairs { (t : Pair → Bool) → list_any t pairs.now ≡ list_any t (flat_map (λ (o : Operation). pairs_in o.body) (set.items register.now.ops)) }
+    requires pairs { (t : Supersession → Bool) → list_any t pairs.now ≡ list_any t (flat_map (λ (o : Operation). pairs_in o.body) (set.items register.now.ops)) }
     ensures { IfOk result (λ newer. newer.items ≡ set.items (newer_of register.now.ops entry)) }
 {
     if is_retired(register, entry) {

@@ -12,19 +12,19 @@ use std::alloc::{AllocError, Global};
 
 /// An entry and one that supersedes it.
 #[derive(Clone, Copy, PartialEq, Eq, PartialOrd, Ord)]
-pub struct Pair {
+pub struct Supersession {
     pub old: OpId,
     pub newer: OpId,
 }
 
-fn push_pair(pairs: &mut Vec<Pair>, op: &Op) -> Result<(), AllocError>
+fn push_pair(pairs: &mut Vec<Supersession>, op: &Op) -> Result<(), AllocError>
     ensures { OnOk result (pairs.new.items ≡ pairs.old.items ++ pairs_in op.now.body) }
 {
     match op.body() {
         OpBody::Enter(_) => {}
         OpBody::Retire { entry: _ } => {}
         OpBody::Supersede { old, newer } => {
-            pairs.push(Pair {
+            pairs.push(Supersession {
                 old: *old,
                 newer: *newer,
             })?;
@@ -34,9 +34,9 @@ fn push_pair(pairs: &mut Vec<Pair>, op: &Op) -> Result<(), AllocError>
 }
 
 /// The supersessions among operations, as sorted pairs.
-pub fn pairs_of(alloc: Global, ops: &[Op]) -> Result<Vec<Pair>, AllocError>
+pub fn pairs_of(alloc: Global, ops: &[Op]) -> Result<Vec<Supersession>, AllocError>
     ensures sorted { IfOk result (λ pairs. IsSorted pair_cmp pairs.items) }
-    ensures pairs { IfOk result (λ pairs. (t : Pair → Bool) → list_any t pairs.items ≡ list_any t (flat_map (λ (o : Operation). pairs_in o.body) ops.now)) }
+    ensures pairs { IfOk result (λ pairs. (t : Supersession → Bool) → list_any t pairs.items ≡ list_any t (flat_map (λ (o : Operation). pairs_in o.body) ops.now)) }
 {
     let mut pairs = Vec::new(alloc);
     for op in ops {
@@ -46,22 +46,26 @@ pub fn pairs_of(alloc: Global, ops: &[Op]) -> Result<Vec<Pair>, AllocError>
     Ok(pairs)
 }
 
-fn is_below(pair: &Pair, old: OpId) -> bool
+fn is_below(pair: &Supersession, old: OpId) -> bool
     ensures { result ≡ is_before pair.now.old old }
 {
     pair.old.is_before(&old)
 }
 
-fn is_up_to(pair: &Pair, old: OpId) -> bool
+fn is_up_to(pair: &Supersession, old: OpId) -> bool
     ensures { result ≡ not (is_before old pair.now.old) }
 {
     !old.is_before(&pair.old)
 }
 
 /// The entries that supersede an entry, among sorted pairs.
-pub fn newer_among(alloc: Global, pairs: &[Pair], old: OpId) -> Result<Vec<OpId>, AllocError>
+pub fn newer_among(
+    alloc: Global,
+    pairs: &[Supersession],
+    old: OpId,
+) -> Result<Vec<OpId>, AllocError>
     requires { IsSorted pair_cmp pairs.now }
-    ensures { IfOk result (λ newer. (n : Id) → list_any (is_same n) newer.items ≡ list_any (λ (p : Pair). is_same old p.old && is_same n p.newer) pairs.now) }
+    ensures { IfOk result (λ newer. (n : Id) → list_any (is_same n) newer.items ≡ list_any (λ (p : Supersession). is_same old p.old && is_same n p.newer) pairs.now) }
 {
     let low = pairs.partition_point(|pair| is_below(pair, old));
     let rest = &pairs[low..];
@@ -70,8 +74,8 @@ pub fn newer_among(alloc: Global, pairs: &[Pair], old: OpId) -> Result<Vec<OpId>
     Ok(newer)
 }
 
-fn newer_in(alloc: Global, pairs: &[Pair]) -> Result<Vec<OpId>, AllocError>
-    ensures { IfOk result (λ newer. newer.items ≡ map (λ (p : Pair). p.newer) pairs.now) }
+fn newer_in(alloc: Global, pairs: &[Supersession]) -> Result<Vec<OpId>, AllocError>
+    ensures { IfOk result (λ newer. newer.items ≡ map (λ (p : Supersession). p.newer) pairs.now) }
 {
     let mut newer = Vec::with_capacity(alloc, pairs.len())?;
     for pair in pairs {

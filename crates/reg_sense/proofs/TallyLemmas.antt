@@ -11,8 +11,8 @@ use Rattle.std.specs.declared.cmp.Ordering.{Ordering}
 use Rattle.std.specs.declared.cmp.Ordering.TheVariants.{Less, Equal, Greater}
 use Rattle.std.proofs.lemmas.Option.{same_Some}
 use Rattle.crs_said.specs.Claims.{Said}
-use Rattle.reg_sense.specs.declared.tally.Pair.{Pair}
-use Rattle.reg_sense.specs.declared.tally.Tally.{Tally}
+use Rattle.reg_sense.specs.declared.tally.WordAndContent.{WordAndContent}
+use Rattle.reg_sense.specs.declared.tally.ClaimTally.{ClaimTally}
 use Rattle.reg_sense.specs.Claimants.{Voice, is_claim}
 use Rattle.reg_sense.specs.Most.{claiming, count}
 use Rattle.reg_sense.specs.Tallies.{Counted, counted, with_first, tally, with_one, IsRoomy, pair_cmp}
@@ -23,7 +23,7 @@ then_eq Equal t = refl
 then_eq Greater t = refl
 
 -- keys of the map are equal if the claims are
-pub same_pair : (own q : Pair) (x : Said) → own.word.now ≡ x.word → own.content.now ≡ x.content → is_eq (pair_cmp own q) ≡ is_claim q.word.now q.content.now x
+pub same_pair : (own q : WordAndContent) (x : Said) → own.word.now ≡ x.word → own.content.now ≡ x.content → is_eq (pair_cmp own q) ≡ is_claim q.word.now q.content.now x
 same_pair own q x w c =
     then_eq (slice_cmp nat_cmp own.word.now q.word.now) (slice_cmp nat_cmp own.content.now q.content.now)
     ∙ (λ j. sym (texts_ties own.word.now q.word.now) j && sym (texts_ties own.content.now q.content.now) j)
@@ -126,7 +126,7 @@ module _ (w c : List ℕ) where
 
 -- ---- maps
 
-module _ (i : ℕ) (v : Voice) (x : Said) (done : List Said) (vs : List Voice) (own q : Pair) (made : Tally) (old new : Option Tally) where
+module _ (i : ℕ) (v : Voice) (x : Said) (done : List Said) (vs : List Voice) (own q : WordAndContent) (made : ClaimTally) (old new : Option ClaimTally) where
   abbrev now : Bool → Option Counted
   now b = cond b (Some (with_first q.word.now q.content.now i v vs)) (tally q.word.now q.content.now (suc i) vs)
 

@@ -7,8 +7,8 @@ use Rattle.std.specs.Ordering.{nat_cmp, ordering_then, is_eq}
 use Rattle.std.specs.Cmp.Lexicographic.{slice_cmp}
 use Rattle.std.specs.declared.cmp.Ordering.{Ordering}
 use Rattle.crs_said.specs.Claims.{Said}
-use Rattle.reg_sense.specs.declared.tally.Pair.{Pair}
-use Rattle.reg_sense.specs.declared.tally.Tally.{Tally}
+use Rattle.reg_sense.specs.declared.tally.WordAndContent.{WordAndContent}
+use Rattle.reg_sense.specs.declared.tally.ClaimTally.{ClaimTally}
 use Rattle.reg_sense.specs.Claimants.{Voice, voice, is_claim}
 use Rattle.reg_sense.specs.Least.{least}
 use Rattle.reg_sense.specs.Most.{count, contents, is_more}
@@ -19,7 +19,7 @@ pub record Counted : Type 0 where
   pub place : ℕ
   pub count : ℕ
 
-abbrev pub counted : Option Tally → Option Counted
+abbrev pub counted : Option ClaimTally → Option Counted
 counted None = None
 counted (Some t) = Some (record { first = voice t.first.now; place = t.place; count = t.count })
 
@@ -42,23 +42,23 @@ abbrev pub IsRoomy : ℕ → Option Counted → Type 0
 IsRoomy i None = Unit {0}
 IsRoomy i (Some t) = (t.place == i) ≡ false → t.count + 1 < 2 ^ 64
 
-abbrev pub pair_cmp : Pair → Pair → Ordering
+abbrev pub pair_cmp : WordAndContent → WordAndContent → Ordering
 pair_cmp a b = ordering_then (slice_cmp nat_cmp a.word.now b.word.now) (slice_cmp nat_cmp a.content.now b.content.now)
 
 abbrev pub Tallies : Type 0
-Tallies = BTreeMap Pair Tally
+Tallies = BTreeMap WordAndContent ClaimTally
 
 -- the new map has the tally at the pair, and what the old one has elsewhere
-abbrev pub HasPut : Pair → Tally → Tallies → Tallies → Type 0
-HasPut own made old new = (q : Pair) → get pair_cmp new q ≡ (if is_eq (pair_cmp own q) then Some made else get pair_cmp old q)
+abbrev pub HasPut : WordAndContent → ClaimTally → Tallies → Tallies → Type 0
+HasPut own made old new = (q : WordAndContent) → get pair_cmp new q ≡ (if is_eq (pair_cmp own q) then Some made else get pair_cmp old q)
 
 -- the map has these tallies
 abbrev pub HasTallies : Tallies → ℕ → List Voice → Type 0
-HasTallies m i vs = (q : Pair) → counted (get pair_cmp m q) ≡ tally q.word.now q.content.now i vs
+HasTallies m i vs = (q : WordAndContent) → counted (get pair_cmp m q) ≡ tally q.word.now q.content.now i vs
 
 -- the same where one before them has claimed so much
 abbrev pub HasPart : Tallies → ℕ → Voice → List Said → List Voice → Type 0
-HasPart m i v done vs = (q : Pair) → counted (get pair_cmp m q) ≡ (if list_any (is_claim q.word.now q.content.now) done then Some (with_first q.word.now q.content.now i v vs) else tally q.word.now q.content.now (suc i) vs)
+HasPart m i v done vs = (q : WordAndContent) → counted (get pair_cmp m q) ≡ (if list_any (is_claim q.word.now q.content.now) done then Some (with_first q.word.now q.content.now i v vs) else tally q.word.now q.content.now (suc i) vs)
 
 -- ---- what most claim
 

@@ -10,16 +10,20 @@ ghost use Rattle.reg_sense.specs.Most.{claiming, count, contents, is_more, all_c
 ghost use Rattle.reg_sense.specs.Tallies.{counted, tally, HasTallies, HasMost, seen_in};
 
 use crate::claimant::{Claimant, key_text};
-use crate::tally::{Pair, Tally, tallies_of};
+use crate::tally::{ClaimTally, WordAndContent, tallies_of};
 use crs_said::Claim;
 use itoa::Buffer;
 use std::alloc::{AllocError, Global};
 use std::collections::BTreeMap;
 
-fn count_of<'a>(tallies: &BTreeMap<Pair<'a>, Tally<'a>>, word: &'a [u8], content: &'a [u8]) -> usize
+fn count_of<'a>(
+    tallies: &BTreeMap<WordAndContent<'a>, ClaimTally<'a>>,
+    word: &'a [u8],
+    content: &'a [u8],
+) -> usize
     ensures { (vs : List Voice) → HasTallies tallies.now 0 vs → result ≡ count word.now content.now vs }
 {
-    let pair = Pair { word, content };
+    let pair = WordAndContent { word, content };
     match tallies.get(&pair) {
         Some(tally) => tally.count,
         None => 0,
@@ -28,7 +32,7 @@ fn count_of<'a>(tallies: &BTreeMap<Pair<'a>, Tally<'a>>, word: &'a [u8], content
 
 // Whether more claim the content on the left; or as many, and it comes first.
 fn is_more<'a>(
-    tallies: &BTreeMap<Pair<'a>, Tally<'a>>,
+    tallies: &BTreeMap<WordAndContent<'a>, ClaimTally<'a>>,
     word: &'a [u8],
     left: &'a [u8],
     right: &'a [u8],
@@ -41,7 +45,7 @@ fn is_more<'a>(
 }
 
 fn better<'a>(
-    tallies: &BTreeMap<Pair<'a>, Tally<'a>>,
+    tallies: &BTreeMap<WordAndContent<'a>, ClaimTally<'a>>,
     word: &'a [u8],
     content: &'a [u8],
     before: Option<&&'a [u8]>,
@@ -70,7 +74,7 @@ fn has_content<'a>(best: &BTreeMap<&'a [u8], &'a [u8]>, claim: &'a Claim) -> boo
 
 // Most claims say what most say, and change nothing.
 fn put_content<'a>(
-    tallies: &BTreeMap<Pair<'a>, Tally<'a>>,
+    tallies: &BTreeMap<WordAndContent<'a>, ClaimTally<'a>>,
     best: &mut BTreeMap<&'a [u8], &'a [u8]>,
     claim: &'a Claim,
 ) -> Result<(), AllocError>
@@ -86,7 +90,7 @@ fn put_content<'a>(
 }
 
 fn put_contents<'a>(
-    tallies: &BTreeMap<Pair<'a>, Tally<'a>>,
+    tallies: &BTreeMap<WordAndContent<'a>, ClaimTally<'a>>,
     best: &mut BTreeMap<&'a [u8], &'a [u8]>,
     claims: &'a [Claim],
 ) -> Result<(), AllocError>
@@ -103,7 +107,7 @@ fn put_contents<'a>(
 // For each word the content that most claim.
 fn most_of<'a>(
     alloc: Global,
-    tallies: &BTreeMap<Pair<'a>, Tally<'a>>,
+    tallies: &BTreeMap<WordAndContent<'a>, ClaimTally<'a>>,
     claimants: &'a [Claimant],
 ) -> Result<BTreeMap<&'a [u8], &'a [u8]>, AllocError>
     ensures { (vs : List Voice) → HasTallies tallies.now 0 vs → IfOk result (λ best. HasMost vs best (all_claims (map voice claimants.now))) }
@@ -146,7 +150,7 @@ fn more_told(alloc: Global, more: usize) -> Result<Vec<u8>, AllocError>
 }
 
 // The first of those in a tally, and how many more; nothing without a tally.
-fn those_told<'a>(alloc: Global, found: Option<&Tally<'a>>) -> Result<Vec<u8>, AllocError>
+fn those_told<'a>(alloc: Global, found: Option<&ClaimTally<'a>>) -> Result<Vec<u8>, AllocError>
     ensures { (w c : List ℕ) (vs : List Voice) → counted (option_copied found.entry) ≡ tally w c 0 vs → IfOk result (λ text. text.items ≡ those_told (claiming w c vs)) }
 {
     let Some(tally) = found else {
@@ -160,13 +164,13 @@ fn those_told<'a>(alloc: Global, found: Option<&Tally<'a>>) -> Result<Vec<u8>, A
 
 fn against<'a>(
     alloc: Global,
-    tallies: &BTreeMap<Pair<'a>, Tally<'a>>,
+    tallies: &BTreeMap<WordAndContent<'a>, ClaimTally<'a>>,
     claim: &'a Claim,
     content: &'a [u8],
 ) -> Result<Vec<u8>, AllocError>
     ensures { (vs : List Voice) → HasTallies tallies.now 0 vs → IfOk result (λ text. text.items ≡ against vs (claim_seen claim.now) content.now) }
 {
-    let pair = Pair {
+    let pair = WordAndContent {
         word: claim.word.as_slice(),
         content,
     };
@@ -180,7 +184,7 @@ fn against<'a>(
 
 fn odd_told<'a>(
     alloc: Global,
-    tallies: &BTreeMap<Pair<'a>, Tally<'a>>,
+    tallies: &BTreeMap<WordAndContent<'a>, ClaimTally<'a>>,
     best: &BTreeMap<&'a [u8], &'a [u8]>,
     claim: &'a Claim,
 ) -> Result<Option<Vec<u8>>, AllocError>
@@ -195,7 +199,7 @@ fn odd_told<'a>(
 
 fn first_odd<'a>(
     alloc: Global,
-    tallies: &BTreeMap<Pair<'a>, Tally<'a>>,
+    tallies: &BTreeMap<WordAndContent<'a>, ClaimTally<'a>>,
     best: &BTreeMap<&'a [u8], &'a [u8]>,
     claims: &'a [Claim],
 ) -> Result<Option<Vec<u8>>, AllocError>
@@ -215,7 +219,7 @@ fn first_odd<'a>(
 // The sentence about each, by these tallies.
 fn each_told<'a>(
     alloc: Global,
-    tallies: &BTreeMap<Pair<'a>, Tally<'a>>,
+    tallies: &BTreeMap<WordAndContent<'a>, ClaimTally<'a>>,
     best: &BTreeMap<&'a [u8], &'a [u8]>,
     claimants: &'a [Claimant],
 ) -> Result<Vec<Option<Vec<u8>>>, AllocError>

@@ -12,27 +12,27 @@ use std::collections::BTreeMap;
 
 /// A word and a content, ordered by the word and then by the content.
 #[derive(Clone, Copy, PartialEq, Eq, PartialOrd, Ord)]
-pub struct Pair<'a> {
+pub struct WordAndContent<'a> {
     pub word: &'a [u8],
     pub content: &'a [u8],
 }
 
 /// How many claim a content for a word, and the first of them with its place.
 #[derive(Clone, Copy)]
-pub struct Tally<'a> {
+pub struct ClaimTally<'a> {
     pub first: &'a Claimant,
     pub place: usize,
     pub count: usize,
 }
 
 // The tally after one before the others, at this place, has claimed it too, perhaps again.
-fn one_more<'a>(tally: Tally<'a>, place: usize, claimant: &'a Claimant) -> Tally<'a>
+fn one_more<'a>(tally: ClaimTally<'a>, place: usize, claimant: &'a Claimant) -> ClaimTally<'a>
     ensures { IsRoomy place (counted (Some tally.entry)) → counted (Some result) ≡ Some (with_one place (voice claimant.now) (counted (Some tally.entry))) }
 {
     if tally.place == place {
         return tally;
     }
-    Tally {
+    ClaimTally {
         first: claimant,
         place,
         count: tally.count.saturating_add(1),
@@ -40,9 +40,9 @@ fn one_more<'a>(tally: Tally<'a>, place: usize, claimant: &'a Claimant) -> Tally
 }
 
 fn put_tally<'a>(
-    tallies: &mut BTreeMap<Pair<'a>, Tally<'a>>,
-    pair: Pair<'a>,
-    tally: Tally<'a>,
+    tallies: &mut BTreeMap<WordAndContent<'a>, ClaimTally<'a>>,
+    pair: WordAndContent<'a>,
+    tally: ClaimTally<'a>,
 ) -> Result<(), AllocError>
     ensures { OnOk result (HasPut pair.entry tally.entry tallies.old tallies.new) }
 {
@@ -52,14 +52,14 @@ fn put_tally<'a>(
 
 // Most claims have a tally already, which is looked for once.
 fn put_claim<'a>(
-    tallies: &mut BTreeMap<Pair<'a>, Tally<'a>>,
+    tallies: &mut BTreeMap<WordAndContent<'a>, ClaimTally<'a>>,
     place: usize,
     claimant: &'a Claimant,
     claim: &'a Claim,
 ) -> Result<(), AllocError>
     ensures { (done : List Said) (vs : List Voice) → length vs + 1 < 2 ^ 64 → HasPart tallies.old place (voice claimant.now) done vs → OnOk result (HasPart tallies.new place (voice claimant.now) (claim_seen claim.now ∷ done) vs) }
 {
-    let pair = Pair {
+    let pair = WordAndContent {
         word: &claim.word,
         content: &claim.content,
     };
@@ -70,7 +70,7 @@ fn put_claim<'a>(
             Ok(())
         }
         None => {
-            let first = Tally {
+            let first = ClaimTally {
                 first: claimant,
                 place,
                 count: 1,
@@ -82,7 +82,7 @@ fn put_claim<'a>(
 
 // Counts the claims of one who stands at this place, before the others.
 fn put_claims<'a>(
-    tallies: &mut BTreeMap<Pair<'a>, Tally<'a>>,
+    tallies: &mut BTreeMap<WordAndContent<'a>, ClaimTally<'a>>,
     place: usize,
     claimant: &'a Claimant,
 ) -> Result<(), AllocError>
@@ -100,7 +100,7 @@ fn put_claims<'a>(
 pub fn tallies_of<'a>(
     alloc: Global,
     claimants: &'a [Claimant],
-) -> Result<BTreeMap<Pair<'a>, Tally<'a>>, AllocError>
+) -> Result<BTreeMap<WordAndContent<'a>, ClaimTally<'a>>, AllocError>
     ensures { IfOk result (λ made. HasTallies made 0 (map voice claimants.now)) }
 {
     let mut made = BTreeMap::new(alloc);

@@ -9,7 +9,7 @@ use Rattle.std.specs.declared.cmp.Ordering.TheVariants.{Less, Equal, Greater}
 use Rattle.reg_op.specs.Ids.{Id, id_cmp, is_same, is_before}
 use Rattle.reg_op.proofs.OpLemmas.{is_same_back, is_same_chain}
 use Rattle.reg_state.specs.declared.mark.Mark.{Mark}
-use Rattle.reg_state.specs.declared.mark.Target.{Target}
+use Rattle.reg_state.specs.declared.mark.MarkTarget.{MarkTarget}
 use Rattle.reg_state.specs.MarkSets.{mark_cmp, lessens_by, lessens, covers_by, covers, BeginsAt}
 use Rattle.reg_state.specs.MarkLaws.{mark_total}
 use Rattle.reg_state.proofs.OrderLemmas.{IsBy, same_back, begins_at, begins_entry}
@@ -88,7 +88,7 @@ covers_by_chain (Some n) None z h k = absurd (true≢false (sym h))
 covers_by_chain (Some n) (Some o) None h k = absurd (true≢false (sym k))
 covers_by_chain (Some n) (Some o) (Some q) h k = is_same_chain n o q h k
 
-pub covers_chain : (t : Target) (m q : Mark) → covers t m ≡ true → covers m.target q ≡ true → covers t q ≡ true
+pub covers_chain : (t : MarkTarget) (m q : Mark) → covers t m ≡ true → covers m.target q ≡ true → covers t q ≡ true
 covers_chain t m q h k =
     let a = and_parts _ _ h in
     let b = and_parts _ _ k in
@@ -117,5 +117,5 @@ begins_by : (e : Id) (by : Option Id) → BeginsAt (record { entry = e; by = by 
 begins_by e None = subst (BeginsAt (record { entry = e; by = None })) (λ k m. and_true (is_same e m.target.entry) k) (begins_entry e)
 begins_by e (Some n) = subst (BeginsAt (record { entry = e; by = Some n })) (λ k m. at_covered e n m.target.entry m.target.by k) (begins_at (record { entry = e; by = Some n }))
 
-pub begins_covered : (t : Target) → BeginsAt t (covers t)
+pub begins_covered : (t : MarkTarget) → BeginsAt t (covers t)
 begins_covered t = begins_by t.entry t.by

@@ -11,7 +11,7 @@ use Rattle.reg_op.specs.Set as set
 use Rattle.reg_op.specs.Set.{contains-from_list, same_set}
 use Rattle.reg_op.proofs.FiniteLemmas.{any_from_member, member_from_any, contains-topmost}
 use Rattle.reg_state.specs.declared.mark.Mark.{Mark}
-use Rattle.reg_state.specs.declared.mark.Target.{Target}
+use Rattle.reg_state.specs.declared.mark.MarkTarget.{MarkTarget}
 use Rattle.reg_state.specs.MarkSets.{target_cmp, mark_cmp, has, MarkSet, lessens, least, covers, is_covered, firsts}
 use Rattle.reg_state.specs.MarkLaws.{mark_total, mark_exact, lessens_irreflexive, lessens_chain}
 use Rattle.reg_state.proofs.OrderLemmas.{IsBy, by_target}
@@ -44,14 +44,14 @@ all_by x (y ∷ ys) q h k = elim (or_cases (eq_by_cmp mark_cmp q y) (has ys q) k
 ]
 
 -- no mark of the list is below the target
-abbrev AllFrom : Option Target → List Mark → Type 0
+abbrev AllFrom : Option MarkTarget → List Mark → Type 0
 AllFrom None xs = Unit {0}
 AllFrom (Some t) xs = (q : Mark) → has xs q ≡ true → is_lt (target_cmp q.target t) ≡ false
 
 from_by : (x : Mark) (xs : List Mark) → AllBy x xs → AllFrom (Some x.target) xs
 from_by x xs h q k = by_target x q (all_by x xs q h k)
 
-from_rest : (t : Option Target) (x : Mark) (xs : List Mark) → AllFrom t (x ∷ xs) → AllFrom t xs
+from_rest : (t : Option MarkTarget) (x : Mark) (xs : List Mark) → AllFrom t (x ∷ xs) → AllFrom t xs
 from_rest None x xs h = tt
 from_rest (Some t) x xs h = λ q k. h q (or_right (eq_by_cmp mark_cmp q x) _ k)
 
@@ -59,12 +59,12 @@ itself : (x : Mark) → eq_by_cmp mark_cmp x x ≡ true
 itself x = ap is_eq (tied_itself mark_total x)
 
 -- if t does not cover the first of marks that are not below t, it covers no later mark
-not_covered_later : (t : Option Target) (x : Mark) (xs : List Mark) (q : Mark) → AllFrom t (x ∷ xs) → IsBy x q → is_covered t x ≡ false → is_covered t q ≡ false
+not_covered_later : (t : Option MarkTarget) (x : Mark) (xs : List Mark) (q : Mark) → AllFrom t (x ∷ xs) → IsBy x q → is_covered t x ≡ false → is_covered t q ≡ false
 not_covered_later None x xs q from by no_x = refl
 not_covered_later (Some t) x xs q from by no_x = false_from_ne_true _ (λ at.
     true≢false (sym ((begins_covered t).down x q by (from x (or_left _ _ (itself x))) at) ∙ no_x))
 
-covered_chain : (t : Option Target) (x q : Mark) → is_covered t x ≡ true → covers x.target q ≡ true → is_covered t q ≡ true
+covered_chain : (t : Option MarkTarget) (x q : Mark) → is_covered t x ≡ true → covers x.target q ≡ true → is_covered t q ≡ true
 covered_chain None x q h e = absurd (true≢false (sym h))
 covered_chain (Some t) x q h e = covers_chain t x q h e
 
@@ -74,7 +74,7 @@ NoLesser xs q = (p : Mark) → has xs p ≡ true → lessens p q ≡ true → �
 eq_of : (q x : Mark) → eq_by_cmp mark_cmp q x ≡ true → q ≡ x
 eq_of q x h = mark_exact q x ((Equal-is (mark_cmp q x)).0 h)
 
-pub sound : (t : Option Target) (xs : List Mark) (q : Mark) → Up xs → AllFrom t xs → has (firsts t xs) q ≡ true → (has xs q ≡ true) × NoLesser xs q × (is_covered t q ≡ false)
+pub sound : (t : Option MarkTarget) (xs : List Mark) (q : Mark) → Up xs → AllFrom t xs → has (firsts t xs) q ≡ true → (has xs q ≡ true) × NoLesser xs q × (is_covered t q ≡ false)
 sound t [] q up from h = absurd (true≢false (sym h))
 sound t (x ∷ xs) q up from h =
     elim (is_covered t x) as (λ b. is_covered t x ≡ b → has (cond b (firsts t xs) (x ∷ firsts (Some x.target) xs)) q ≡ true → (has (x ∷ xs) q ≡ true) × NoLesser (x ∷ xs) q × (is_covered t q ≡ false)) [
@@ -108,7 +108,7 @@ sound t (x ∷ xs) q up from h =
       ]
     ] refl h
 
-pub complete : (t : Option Target) (xs : List Mark) (q : Mark) → Up xs → has xs q ≡ true → NoLesser xs q → is_covered t q ≡ false → has (firsts t xs) q ≡ true
+pub complete : (t : Option MarkTarget) (xs : List Mark) (q : Mark) → Up xs → has xs q ≡ true → NoLesser xs q → is_covered t q ≡ false → has (firsts t xs) q ≡ true
 complete t [] q up h none no_q = absurd (true≢false (sym h))
 complete t (x ∷ xs) q up h none no_q =
     elim (is_covered t x) as (λ b. is_covered t x ≡ b → has (cond b (firsts t xs) (x ∷ firsts (Some x.target) xs)) q ≡ true) [
@@ -161,12 +161,12 @@ set-append xs ys = same_set mark_total mark_exact _ _ (λ q.
 
 -- ---- `firsts` of sorted marks is sorted
 
-all_firsts : (x : Mark) (t : Option Target) (xs : List Mark) → AllBy x xs → AllBy x (firsts t xs)
+all_firsts : (x : Mark) (t : Option MarkTarget) (xs : List Mark) → AllBy x xs → AllBy x (firsts t xs)
 all_firsts x t [] h = tt
 all_firsts x t (y ∷ ys) h =
     elim (is_covered t y) as (λ b. AllBy x (cond b (firsts t ys) (y ∷ firsts (Some y.target) ys))) [ true ↦ all_firsts x t ys h.1 | false ↦ (h.0, all_firsts x (Some y.target) ys h.1) ]
 
-firsts_up : (t : Option Target) (xs : List Mark) → Up xs → Up (firsts t xs)
+firsts_up : (t : Option MarkTarget) (xs : List Mark) → Up xs → Up (firsts t xs)
 firsts_up t [] up = tt
 firsts_up t (x ∷ xs) up =
     elim (is_covered t x) as (λ b. Up (cond b (firsts t xs) (x ∷ firsts (Some x.target) xs))) [

@@ -17,7 +17,7 @@ use Rattle.reg_op.specs.Finite.{any}
 use Rattle.reg_op.specs.Ids.{Id, id_cmp, is_same, is_before}
 use Rattle.reg_op.proofs.FiniteLemmas.{any_from_member, member_from_any, contains-topmost, list_any-or}
 use Rattle.reg_state.specs.declared.mark.Mark.{Mark}
-use Rattle.reg_state.specs.declared.mark.Target.{Target}
+use Rattle.reg_state.specs.declared.mark.MarkTarget.{MarkTarget}
 use Rattle.reg_state.specs.MarkSets.{mark_cmp, is_at, has, MarkSet, lessens_by, lessens, least, AreLeast, covers, AreMarks}
 use Rattle.reg_state.specs.MarkLaws.{mark_total, mark_exact, lessens_irreflexive, lessens_chain, least_least}
 use Rattle.reg_state.proofs.OrderLemmas.{IsBy}
@@ -121,29 +121,29 @@ needless s m are h =
 
 -- ---- the marks that the new mark covers are removed
 
-abbrev pub uncovered : Target → List Mark → List Mark
+abbrev pub uncovered : MarkTarget → List Mark → List Mark
 uncovered t ms = filter (λ m. not (covers t m)) ms
 
-pub none_covered : (t : Target) (ms : List Mark) → list_any (covers t) ms ≡ false → ms ≡ uncovered t ms
+pub none_covered : (t : MarkTarget) (ms : List Mark) → list_any (covers t) ms ≡ false → ms ≡ uncovered t ms
 none_covered t [] h = refl
 none_covered t (x ∷ xs) h =
     let p = or_parts (covers t x) (list_any (covers t) xs) h in
     λ k. cond (not (sym p.0 k)) (x ∷ none_covered t xs p.1 k) (none_covered t xs p.1 k)
 
-all_uncovered : (x : Mark) (t : Target) (ms : List Mark) → AllBy x ms → AllBy x (uncovered t ms)
+all_uncovered : (x : Mark) (t : MarkTarget) (ms : List Mark) → AllBy x ms → AllBy x (uncovered t ms)
 all_uncovered x t [] h = tt
 all_uncovered x t (y ∷ ys) h =
     elim (not (covers t y)) as (λ b. AllBy x (cond b (y ∷ uncovered t ys) (uncovered t ys))) [ true ↦ (h.0, all_uncovered x t ys h.1) | false ↦ all_uncovered x t ys h.1 ]
 
-uncovered_up : (t : Target) (ms : List Mark) → Up ms → Up (uncovered t ms)
+uncovered_up : (t : MarkTarget) (ms : List Mark) → Up ms → Up (uncovered t ms)
 uncovered_up t [] h = tt
 uncovered_up t (y ∷ ys) h =
     elim (not (covers t y)) as (λ b. Up (cond b (y ∷ uncovered t ys) (uncovered t ys))) [ true ↦ (all_uncovered y t ys h.0, uncovered_up t ys h.1) | false ↦ uncovered_up t ys h.1 ]
 
-pub uncovered_sorted : (t : Target) (ms out : List Mark) → IsSorted mark_cmp ms → out ≡ uncovered t ms → IsSorted mark_cmp out
+pub uncovered_sorted : (t : MarkTarget) (ms out : List Mark) → IsSorted mark_cmp ms → out ≡ uncovered t ms → IsSorted mark_cmp out
 uncovered_sorted t ms out h e = subst (IsSorted mark_cmp) (sym e) (up_sorted (uncovered t ms) (uncovered_up t ms (sorted_up ms h)))
 
-has_uncovered : (t : Target) (ms : List Mark) (q : Mark) → has (uncovered t ms) q ≡ (has ms q && not (covers t q))
+has_uncovered : (t : MarkTarget) (ms : List Mark) (q : Mark) → has (uncovered t ms) q ≡ (has ms q && not (covers t q))
 has_uncovered t [] q = refl
 has_uncovered t (x ∷ xs) q =
     elim (eq_by_cmp mark_cmp q x) as (λ b. eq_by_cmp mark_cmp q x ≡ b → has (cond (not (covers t x)) (x ∷ uncovered t xs) (uncovered t xs)) q ≡ ((b || has xs q) && not (covers t q))) [

@@ -19,7 +19,7 @@ use Rattle.reg_op.proofs.FiniteLemmas.{any_from_member, member_from_any, among, 
 use Rattle.reg_op.proofs.OpLemmas.{id_total}
 use Rattle.reg_op.proofs.ClashLemmas.{tied_of}
 use Rattle.reg_state.specs.declared.mark.Mark.{Mark}
-use Rattle.reg_state.specs.declared.mark.Target.{Target}
+use Rattle.reg_state.specs.declared.mark.MarkTarget.{MarkTarget}
 use Rattle.reg_state.specs.MarkSets.{target_cmp, mark_cmp, is_at, has, MarkSet, lessens_by, lessens, least, AreLeast, BeginsAt}
 use Rattle.reg_state.specs.MarkLaws.{target_total, mark_total, mark_exact, at_exact, lessens_irreflexive, lessens_chain}
 
@@ -49,19 +49,19 @@ marks_far ms up = sorted_far (λ m n. is_lt (mark_cmp m n)) (ranks_by mark_total
 pub by_target : (m n : Mark) → IsBy m n → is_lt (target_cmp n.target m.target) ≡ false
 by_target m n h = false_from_ne_true _ (λ k. true≢false (sym (lt_then _ (id_cmp n.id m.id) k) ∙ h))
 
-pub below_low : (t : Target) (m n : Mark) → IsBy m n → is_lt (target_cmp n.target t) ≡ true → is_lt (target_cmp m.target t) ≡ true
+pub below_low : (t : MarkTarget) (m n : Mark) → IsBy m n → is_lt (target_cmp n.target t) ≡ true → is_lt (target_cmp m.target t) ≡ true
 below_low t m n h b = true_from_ne_false _ (λ k. true≢false (sym b ∙ lt_target.chain n.target m.target t (by_target m n h) k))
 
-at_back : (t : Target) (n : Mark) → is_at t n ≡ true → is_eq (target_cmp t n.target) ≡ true
+at_back : (t : MarkTarget) (n : Mark) → is_at t n ≡ true → is_eq (target_cmp t n.target) ≡ true
 at_back t n a = ap is_eq (tied_back target_total n.target t ((Equal-is (target_cmp n.target t)).0 a))
 
 -- of the marks that are not below t, one that is no later than a mark at t is at t
-at_earlier : (t : Target) (m n : Mark) → IsBy m n → is_lt (target_cmp m.target t) ≡ false → is_at t n ≡ true → is_at t m ≡ true
+at_earlier : (t : MarkTarget) (m n : Mark) → IsBy m n → is_lt (target_cmp m.target t) ≡ false → is_at t n ≡ true → is_at t m ≡ true
 at_earlier t m n h k a =
     tied_of target_total m.target t k
     (lt_target.chain t n.target m.target (eq_not_lt _ (at_back t n a)) (by_target m n h))
 
-pub begins_at : (t : Target) → BeginsAt t (λ m. is_at t m)
+pub begins_at : (t : MarkTarget) → BeginsAt t (λ m. is_at t m)
 begins_at t = record {
   from = λ m h. eq_not_lt _ h;
   down = λ m n h k a. at_earlier t m n h k a;
@@ -101,7 +101,7 @@ any-from_list t xs = both_ways _ _
 pub same_mark : (a b : Mark) → a.target ≡ b.target → a.id ≡ b.id → a ≡ b
 same_mark a b e f = λ k. record { target = e k; id = f k }
 
-pub found_at : (xs : List Mark) (t : Target) (m : Mark) → has xs m ≡ true → is_at t m ≡ true → contains (set.from_list {R = mark_cmp} xs) (record { target = t; id = m.id }) ≡ true
+pub found_at : (xs : List Mark) (t : MarkTarget) (m : Mark) → has xs m ≡ true → is_at t m ≡ true → contains (set.from_list {R = mark_cmp} xs) (record { target = t; id = m.id }) ≡ true
 found_at xs t m h a =
     subst (λ q. contains (set.from_list {R = mark_cmp} xs) q ≡ true) (same_mark m (record { target = t; id = m.id }) (at_exact t m a) refl)
     (contains-from_list mark_total xs m ∙ h)
@@ -119,7 +119,7 @@ told_of t xs ys s r q h e f g = sym (ap (passes t) g) ∙ sym h ∙ ap (list_any
 pub any-least : (t : Mark → Bool) → ((p m : Mark) → lessens p m ≡ true → t m ≡ true → t p ≡ true) → (s : MarkSet) → any t (least s) ≡ any t s
 any-least t falls s = any-topmost mark_total mark_exact lessens lessens_irreflexive lessens_chain t falls s
 
-pub any_at : (s : MarkSet) (t : Target) (i : Id) → contains s (record { target = t; id = i }) ≡ true → any (λ m. is_at t m) s ≡ true
+pub any_at : (s : MarkSet) (t : MarkTarget) (i : Id) → contains s (record { target = t; id = i }) ≡ true → any (λ m. is_at t m) s ≡ true
 any_at s t i h = any_from_member mark_total mark_exact (λ m. is_at t m) s (record { target = t; id = i }) h (ap is_eq (tied_itself target_total t))
 
 lessens_itself : (by : Option Id) (before : Bool) → before ≡ true → lessens_by by by before ≡ true
@@ -129,11 +129,11 @@ lessens_itself (Some n) before h = and_from _ _ (ap is_eq (tied_itself id_total 
 -- of two marks of a target, the one with the lesser id makes the other redundant
 pub lessens_at : (p m : Mark) → is_at m.target p ≡ true → is_before p.id m.id ≡ true → lessens p m ≡ true
 lessens_at p m a h =
-    subst (λ (t : Target). (is_same t.entry m.target.entry && lessens_by t.by m.target.by (is_before p.id m.id)) ≡ true) (sym (at_exact m.target p a))
+    subst (λ (t : MarkTarget). (is_same t.entry m.target.entry && lessens_by t.by m.target.by (is_before p.id m.id)) ≡ true) (sym (at_exact m.target p a))
     (and_from _ _ (ap is_eq (tied_itself id_total m.target.entry)) (lessens_itself m.target.by _ h))
 
 -- if no mark is redundant, a mark of a target is before j if and only if the target's mark is
-pub any_before : (s : MarkSet) → AreLeast s → (t : Target) (i j : Id) → contains s (record { target = t; id = i }) ≡ true → any (λ m. is_at t m && is_before m.id j) s ≡ is_before i j
+pub any_before : (s : MarkSet) → AreLeast s → (t : MarkTarget) (i j : Id) → contains s (record { target = t; id = i }) ≡ true → any (λ m. is_at t m && is_before m.id j) s ≡ is_before i j
 any_before s are t i j h = both_ways _ _
     (λ k.
     let r = member_from_any mark_total mark_exact (λ m. is_at t m && is_before m.id j) s k in
@@ -145,7 +145,7 @@ any_before s are t i j h = both_ways _ _
     true≢false (sym (any_from_member mark_total mark_exact (λ q. lessens q (record { target = t; id = i })) s r.0 r.1 (lessens_at r.0 (record { target = t; id = i }) p.0 sooner)) ∙ none)))
     (λ k. any_from_member mark_total mark_exact (λ m. is_at t m && is_before m.id j) s (record { target = t; id = i }) h (and_from _ _ (ap is_eq (tied_itself target_total t)) k))
 
-pub none_before : (s : MarkSet) (t : Target) (j : Id) → any (λ m. is_at t m) s ≡ false → any (λ m. is_at t m && is_before m.id j) s ≡ false
+pub none_before : (s : MarkSet) (t : MarkTarget) (j : Id) → any (λ m. is_at t m) s ≡ false → any (λ m. is_at t m && is_before m.id j) s ≡ false
 none_before s t j h = false_from_ne_true _ (λ k.
     let r = member_from_any mark_total mark_exact (λ m. is_at t m && is_before m.id j) s k in
     true≢false (sym (any_from_member mark_total mark_exact (λ m. is_at t m) s r.0 r.1 (and_parts _ _ r.2).0) ∙ h))

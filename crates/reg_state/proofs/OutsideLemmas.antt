@@ -13,7 +13,7 @@ use Rattle.reg_op.proofs.OpLemmas.{bytes_exact, id_total, id_exact}
 use Rattle.reg_op.proofs.PointLemmas.{lt_or_ge}
 use Rattle.reg_op.proofs.SetLemmas.{AllAbove, Climbs, items_climb}
 use Rattle.reg_state.specs.declared.run.Run.{Run}
-use Rattle.reg_state.specs.declared.seen_outside.Walk.{Walk}
+use Rattle.reg_state.specs.declared.seen_outside.RunWalk.{RunWalk}
 use Rattle.reg_state.specs.Runs.{replica_cmp, IsBelow, first_of, seen_of, is_in_run, is_in_runs, IsBeyond, IsRun, AreRuns, EndInIds}
 use Rattle.reg_state.specs.Walks.{from_count, runs_from, is_outside, is_left, lefts_of, spans_of, IsLeastOf, IsTaken, IsWalk}
 use Rattle.reg_state.proofs.RunLemmas.{below_chain, not_below_same, below_back, first_run, rest_runs, AreRuns-above, EndInIds-push, in_runs-push, contains-seen_of}
@@ -109,14 +109,14 @@ later_runs r s (x ∷ xs) h e f is =
 
 -- ---- during the walk
 
-pub record IsOn (low : ℕ) (lefts rights : List Run) (w : Walk) : Type 0 where
+pub record IsOn (low : ℕ) (lefts rights : List Run) (w : RunWalk) : Type 0 where
   pub left_runs : AreRuns (runs_from low lefts)
   pub right_runs : AreRuns rights
   pub ids : EndInIds lefts
   pub same : (i : Id) → is_outside (runs_from low lefts) rights i ≡ is_left w i
   pub spans : spans_of (runs_from low lefts) ≤ spans_of (lefts_of w)
 
-module _ (low : ℕ) (first : Run) (others : List Run) (w : Walk) where
+module _ (low : ℕ) (first : Run) (others : List Run) (w : RunWalk) where
   abbrev run : Run
   run = from_count low first
 
@@ -124,7 +124,7 @@ module _ (low : ℕ) (first : Run) (others : List Run) (w : Walk) where
     is_run : IsRun run
     is_run = first_run run others on.left_runs
 
-    took_whole : (new : Walk) → new.low ≡ 0 → new.lefts.now ≡ others → new.rights.now ≡ rights → ((i : Id) → is_in_run i run ≡ true → is_in_runs i rights ≡ false) → IsTaken w run new
+    took_whole : (new : RunWalk) → new.low ≡ 0 → new.lefts.now ≡ others → new.rights.now ≡ rights → ((i : Id) → is_in_run i run ≡ true → is_in_runs i rights ≡ false) → IsTaken w run new
     took_whole new l m r far =
         let now : lefts_of new ≡ others = (λ k. runs_from (l k) (m k)) ∙ runs_from_0 others in
         record {
@@ -176,7 +176,7 @@ module _ (low : ℕ) (first : Run) (others : List Run) (w : Walk) where
       abbrev front : ℕ → Run
       front high = record { replica = run.replica; low = run.low; high = high }
 
-      took_front : run.low < other.low → (new : Walk) → new.low ≡ other.low → new.lefts.now ≡ first ∷ others → new.rights.now ≡ other ∷ rest
+      took_front : run.low < other.low → (new : RunWalk) → new.low ≡ other.low → new.lefts.now ≡ first ∷ others → new.rights.now ≡ other ∷ rest
           → IsTaken w (front (other.low - 1)) new
       took_front under new l n r =
           let above : run.low ≤ other.low = omega arith in
@@ -267,11 +267,11 @@ module _ (low : ℕ) (first : Run) (others : List Run) (w : Walk) where
 pub none_first : (xs : List Run) (x : Run) (ys : List Run) → xs ≡ x ∷ ys → length xs ≡ 0 → ⊥
 none_first xs x ys e h = let f : length xs ≡ length (x ∷ ys) = ap length e in omega (arith, f)
 
-module _ (low : ℕ) (lefts rights : List Run) (w : Walk) (on : IsOn low lefts rights w) (first : Run) (others : List Run) (l : lefts ≡ first ∷ others) (cut : Run) (e : cut ≡ from_count low first) where
+module _ (low : ℕ) (lefts rights : List Run) (w : RunWalk) (on : IsOn low lefts rights w) (first : Run) (others : List Run) (l : lefts ≡ first ∷ others) (cut : Run) (e : cut ≡ from_count low first) where
   on_left : IsOn low (first ∷ others) rights w
   on_left = subst (λ ls. IsOn low ls rights w) l on
 
-  pub take_last : length rights ≡ 0 → (new : Walk) → new.low ≡ 0 → new.lefts.now ≡ others → new.rights.now ≡ rights → IsTaken w cut new
+  pub take_last : length rights ≡ 0 → (new : RunWalk) → new.low ≡ 0 → new.lefts.now ≡ others → new.rights.now ≡ rights → IsTaken w cut new
   take_last none new a b c =
       subst (λ r. IsTaken w r new) (sym e) (took_whole low first others w rights on_left new a b c (λ i h. no_runs rights none i))
     where
@@ -283,7 +283,7 @@ module _ (low : ℕ) (lefts rights : List Run) (w : Walk) (on : IsOn low lefts r
     on_both : IsOn low (first ∷ others) (other ∷ rest) w
     on_both = subst (λ rs. IsOn low (first ∷ others) rs w) r on_left
 
-    pub take_before : ends (first_of other) cut ≡ true → (new : Walk) → new.low ≡ 0 → new.lefts.now ≡ others → new.rights.now ≡ rights → IsTaken w cut new
+    pub take_before : ends (first_of other) cut ≡ true → (new : RunWalk) → new.low ≡ 0 → new.lefts.now ≡ others → new.rights.now ≡ rights → IsTaken w cut new
     take_before h new a b c =
         let past : IsPast (from_count low first) (first_of other) = past_of (first_of other) (from_count low first) (ap (ends (first_of other)) (sym e) ∙ h) in
         subst (λ x. IsTaken w x new) (sym e)
@@ -296,7 +296,7 @@ module _ (low : ℕ) (lefts rights : List Run) (w : Walk) (on : IsOn low lefts r
       meet : AreMeeting (from_count low first) other
       meet = meeting (from_count low first) other (ap (λ x. ends (first_of x) other) (sym e) ∙ apart) (ap (ends (first_of other)) (sym e) ∙ behind)
 
-      pub take_front_of : cut.low < other.low → (new : Walk) → new.low ≡ other.low → new.lefts.now ≡ lefts → new.rights.now ≡ rights
+      pub take_front_of : cut.low < other.low → (new : RunWalk) → new.low ≡ other.low → new.lefts.now ≡ lefts → new.rights.now ≡ rights
           → IsTaken w (record { replica = cut.replica; low = cut.low; high = other.low - 1 }) new
       take_front_of h new a b c =
           subst (λ (x : Run). IsTaken w (record { replica = x.replica; low = x.low; high = other.low - 1 }) new) (sym e)
@@ -315,17 +315,17 @@ module _ (low : ℕ) (lefts rights : List Run) (w : Walk) (on : IsOn low lefts r
 -- ---- the output of the walk
 
 -- each id that the walk has not yet passed is after each id of the output, and not adjacent to it
-abbrev AllBeyond : List Run → Walk → Type 0
+abbrev AllBeyond : List Run → RunWalk → Type 0
 AllBeyond out w = (i j : Id) → is_in_runs i out ≡ true → is_left w j ≡ true → IsBelow i.replica j.replica ⊎ ((i.replica ≡ j.replica) × (i.count + 1 < j.count))
 
-pub record IsGoing (out : List Run) (w : Walk) (left right : List Run) : Type 0 where
+pub record IsGoing (out : List Run) (w : RunWalk) (left right : List Run) : Type 0 where
   pub walk : IsWalk w
   pub runs : AreRuns out
   pub ids : EndInIds out
   pub beyond : AllBeyond out w
   pub outside : (i : Id) → (is_in_runs i out || is_left w i) ≡ is_outside left right i
 
-pub went_on : (out : List Run) (w new : Walk) (left right : List Run) (run : Run) → IsGoing out w left right → IsTaken w run new → IsGoing (out ++ run ∷ []) new left right
+pub went_on : (out : List Run) (w new : RunWalk) (left right : List Run) (run : Run) → IsGoing out w left right → IsTaken w run new → IsGoing (out ++ run ∷ []) new left right
 went_on out w new left right run is taken =
     record {
       walk = taken.walk;
@@ -355,7 +355,7 @@ went_on out w new left right run is taken =
 
 -- ---- the least id
 
-pub least_taken : (w new : Walk) (r : Run) (t : Id → Bool) → ((i : Id) → is_left w i ≡ t i) → IsTaken w r new → IsLeastOf t (first_of r)
+pub least_taken : (w new : RunWalk) (r : Run) (t : Id → Bool) → ((i : Id) → is_left w i ≡ t i) → IsTaken w r new → IsLeastOf t (first_of r)
 least_taken w new r t same taken =
     record {
       passes = sym (same (first_of r)) ∙ taken.split (first_of r) ∙ or_left _ _ (in_run (first_of r) r (record { replica = refl; low = omega arith; high = taken.is_run.1 }));

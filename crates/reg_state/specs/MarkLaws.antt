@@ -15,7 +15,7 @@ use Rattle.reg_op.proofs.FiniteLemmas.{union_comm, union_assoc, union_again, uni
 use Rattle.reg_op.proofs.OpLemmas.{id_total, id_exact, is_same_chain, is_before_chain, not_before_itself}
 use Rattle.reg_join.specs.Joining.{JoinLaws}
 use Rattle.reg_state.specs.declared.mark.Mark.{Mark}
-use Rattle.reg_state.specs.declared.mark.Target.{Target}
+use Rattle.reg_state.specs.declared.mark.MarkTarget.{MarkTarget}
 use Rattle.reg_state.specs.MarkSets.{target_cmp, mark_cmp, is_at, MarkSet, lessens_by, lessens, least, AreLeast}
 
 -- ---- the order of marks
@@ -53,7 +53,7 @@ mark_exact a b e =
 
 -- ---- lesser marks
 
-pub at_exact : (t : Target) (m : Mark) → is_at t m ≡ true → m.target ≡ t
+pub at_exact : (t : MarkTarget) (m : Mark) → is_at t m ≡ true → m.target ≡ t
 at_exact t m h = target_exact m.target t ((Equal-is (target_cmp m.target t)).0 h)
 
 needs_before : (by : Option Id) (before : Bool) → lessens_by by by before ≡ true → before ≡ true

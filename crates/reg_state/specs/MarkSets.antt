@@ -10,16 +10,16 @@ use Rattle.reg_op.specs.Set as set
 use Rattle.reg_op.specs.Finite.{topmost}
 use Rattle.reg_op.specs.Ids.{Id, id_cmp, is_before, is_same, id_code}
 use Rattle.reg_state.specs.declared.mark.Mark.{Mark}
-use Rattle.reg_state.specs.declared.mark.Target.{Target}
+use Rattle.reg_state.specs.declared.mark.MarkTarget.{MarkTarget}
 
 -- marks are ordered by the entry, its retirement before its supersessions, and by the id
-abbrev pub target_cmp : Target → Target → Ordering
+abbrev pub target_cmp : MarkTarget → MarkTarget → Ordering
 target_cmp a b = ordering_then (id_cmp a.entry b.entry) (option_cmp id_cmp a.by b.by)
 
 abbrev pub mark_cmp : Mark → Mark → Ordering
 mark_cmp a b = ordering_then (target_cmp a.target b.target) (id_cmp a.id b.id)
 
-abbrev pub is_at : Target → Mark → Bool
+abbrev pub is_at : MarkTarget → Mark → Bool
 is_at t m = is_eq (target_cmp m.target t)
 
 abbrev pub MarkSet : Type 0
@@ -47,7 +47,7 @@ covers_by None by = true
 covers_by (Some n) None = false
 covers_by (Some n) (Some o) = is_same n o
 
-abbrev pub covers : Target → Mark → Bool
+abbrev pub covers : MarkTarget → Mark → Bool
 covers t m = is_same t.entry m.target.entry && covers_by t.by m.target.by
 
 -- the least: those that no other makes redundant
@@ -67,15 +67,15 @@ abbrev pub has : List Mark → Mark → Bool
 has ms m = list_any (eq_by_cmp mark_cmp m) ms
 
 -- no mark below the target passes; from the target on, a mark that is no later than one that passes passes too
-pub record BeginsAt (target : Target) (t : Mark → Bool) : Type 0 where
+pub record BeginsAt (target : MarkTarget) (t : Mark → Bool) : Type 0 where
   pub from : (m : Mark) → t m ≡ true → is_lt (target_cmp m.target target) ≡ false
   pub down : (m n : Mark) → is_lt (mark_cmp n m) ≡ false → is_lt (target_cmp m.target target) ≡ false → t n ≡ true → t m ≡ true
 
 -- of the sorted marks after a target's first, those not covered by an earlier one
-abbrev pub is_covered : Option Target → Mark → Bool
+abbrev pub is_covered : Option MarkTarget → Mark → Bool
 is_covered None m = false
 is_covered (Some t) m = covers t m
 
-abbrev pub firsts : Option Target → List Mark → List Mark
+abbrev pub firsts : Option MarkTarget → List Mark → List Mark
 firsts t [] = []
 firsts t (m ∷ ms) = if is_covered t m then firsts t ms else (m ∷ firsts (Some m.target) ms)

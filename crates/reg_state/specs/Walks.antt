@@ -2,7 +2,7 @@
 use Rattle.std.specs.Prelude.{◌≡◌, ℕ, ◌+◌, ◌-◌, ◌<◌, max, Bool, true, false, not, ◌&&◌, ◌||◌, List, [], ◌∷◌}
 use Rattle.reg_op.specs.Ids.{Id, IsId, is_before}
 use Rattle.reg_state.specs.declared.run.Run.{Run}
-use Rattle.reg_state.specs.declared.seen_outside.Walk.{Walk}
+use Rattle.reg_state.specs.declared.seen_outside.RunWalk.{RunWalk}
 use Rattle.reg_state.specs.Runs.{last_of, is_in_run, is_in_runs, IsBeyond, IsRun, AreRuns, EndInIds}
 
 -- an id is in some runs, and not in others
@@ -19,15 +19,15 @@ runs_from low [] = []
 runs_from low (r ∷ rs) = from_count low r ∷ rs
 
 -- the runs on the left that remain
-abbrev pub lefts_of : Walk → List Run
+abbrev pub lefts_of : RunWalk → List Run
 lefts_of w = runs_from w.low w.lefts.now
 
 -- an id is in the runs that remain on the left, and not in those that remain on the right
-abbrev pub is_left : Walk → Id → Bool
+abbrev pub is_left : RunWalk → Id → Bool
 is_left w i = is_outside (lefts_of w) w.rights.now i
 
 -- both sides are runs
-pub record IsWalk (w : Walk) : Type 0 where
+pub record IsWalk (w : RunWalk) : Type 0 where
   pub lefts : AreRuns (lefts_of w)
   pub rights : AreRuns w.rights.now
   pub ids : EndInIds w.lefts.now
@@ -38,7 +38,7 @@ spans_of [] = 0
 spans_of (r ∷ rs) = (r.high + 1 - r.low) + spans_of rs
 
 -- a run was taken off the front
-pub record IsTaken (old : Walk) (run : Run) (new : Walk) : Type 0 where
+pub record IsTaken (old : RunWalk) (run : Run) (new : RunWalk) : Type 0 where
   pub walk : IsWalk new
   pub is_run : IsRun run
   pub id : IsId (last_of run)

@@ -16,7 +16,7 @@ mod seen_outside;
 mod table;
 mod view;
 
-pub use mark::{Mark, Target};
+pub use mark::{Mark, MarkTarget};
 pub use mark_set::Marks;
 pub use piece::{Piece, PieceFault};
 pub use reg_join::{Join, JoinFault, join_all};

@@ -8,7 +8,7 @@ use reg_op::OpId;
 
 /// The target of a mark: an entry that is retired, or superseded by another.
 #[derive(Clone, Copy, Debug, PartialEq, Eq, PartialOrd, Ord)]
-pub struct Target {
+pub struct MarkTarget {
     pub entry: OpId,
     pub by: Option<OpId>,
 }
@@ -16,24 +16,24 @@ pub struct Target {
 /// A mark: an operation retires or supersedes its target.
 #[derive(Clone, Copy, Debug, PartialEq, Eq, PartialOrd, Ord)]
 pub struct Mark {
-    pub target: Target,
+    pub target: MarkTarget,
     pub id: OpId,
 }
 
-pub(crate) fn is_at(mark: &Mark, target: &Target) -> bool
+pub(crate) fn is_at(mark: &Mark, target: &MarkTarget) -> bool
     ensures { result ≡ is_at target.now mark.now }
 {
     mark.target.cmp(target).is_eq()
 }
 
-pub(crate) fn is_below(mark: &Mark, target: &Target) -> bool
+pub(crate) fn is_below(mark: &Mark, target: &MarkTarget) -> bool
     ensures { result ≡ is_lt (target_cmp mark.now.target target.now) }
 {
     mark.target.cmp(target).is_lt()
 }
 
 /// Whether a mark at the target makes the other redundant, if it comes first.
-pub(crate) fn covers(target: &Target, mark: &Mark) -> bool
+pub(crate) fn covers(target: &MarkTarget, mark: &Mark) -> bool
     ensures { result ≡ covers target.now mark.now }
 {
     if !target.entry.is_same(&mark.target.entry) {

@@ -11,7 +11,7 @@ ghost use Rattle.reg_op.specs.Lists.{passes};
 ghost use Rattle.reg_state.specs.MarkSets.{mark_cmp, firsts, has, covers, is_at, is_covered, least, lessens, AreLeast, BeginsAt};
 ghost use Rattle.reg_state.specs.MarkLaws.{joined_marks, merged_marks, AlwaysAgree, marks_laws};
 
-use crate::mark::{Mark, Target, comes_first, covers, is_at, is_below};
+use crate::mark::{Mark, MarkTarget, comes_first, covers, is_at, is_below};
 use reg_join::{Join, JoinFault};
 use reg_op::OpId;
 use std::alloc::{AllocError, Global};
@@ -56,7 +56,7 @@ impl Marks {
     }
 
     /// The least id that marks a target.
-    pub fn least(&self, target: &Target) -> Option<OpId>
+    pub fn least(&self, target: &MarkTarget) -> Option<OpId>
         ensures found { IfSome result (λ id. set.contains self.now (record { target = target.now; id = id }) ≡ true) }
         ensures none { IfNone result (any (λ m. is_at target.now m) self.now ≡ false) }
         ensures least { AreLeast self.now }
@@ -74,7 +74,7 @@ impl Marks {
     pub fn is_touched(&self, entry: OpId) -> bool
         ensures { result ≡ any (λ m. is_same entry m.target.entry) self.now }
     {
-        match first_from(&self.marks, &Target { entry, by: None }) {
+        match first_from(&self.marks, &MarkTarget { entry, by: None }) {
             Some(mark) => entry.is_same(&mark.target.entry),
             None => false,
         }
@@ -96,7 +96,7 @@ impl Marks {
     fn is_retired(&self, entry: OpId) -> bool
         ensures { result ≡ any (λ p. is_at (record { entry = entry; by = None }) p) self.now }
     {
-        match self.least(&Target { entry, by: None }) {
+        match self.least(&MarkTarget { entry, by: None }) {
             Some(_) => true,
             None => false,
         }
@@ -113,7 +113,7 @@ impl Marks {
     }
 
     /// Whether a mark at the target would make some mark redundant, if it came first.
-    pub fn has_covered(&self, target: &Target) -> bool
+    pub fn has_covered(&self, target: &MarkTarget) -> bool
         ensures { result ≡ any (λ m. covers target.now m) self.now }
     {
         match first_from(&self.marks, target) {
@@ -146,7 +146,7 @@ impl Marks {
 }
 
 // The first mark at a target or after it, which decides for all.
-fn first_from(marks: &[Mark], target: &Target) -> Option<Mark>
+fn first_from(marks: &[Mark], target: &MarkTarget) -> Option<Mark>
     requires { IsSorted mark_cmp marks.now }
     ensures told { (t : Mark → Bool) → BeginsAt target.now t → list_any t marks.now ≡ passes t result }
     ensures there { IfSome result (λ m. has marks.now m ≡ true) }
@@ -159,7 +159,7 @@ fn first_from(marks: &[Mark], target: &Target) -> Option<Mark>
 }
 
 // Removes the marks that a mark at the target makes redundant. There are seldom any.
-fn remove_covered(marks: &mut Vec<Mark>, target: &Target)
+fn remove_covered(marks: &mut Vec<Mark>, target: &MarkTarget)
     requires { IsSorted mark_cmp marks.old.items }
     ensures items { marks.new.items ≡ filter (λ m. not (covers target.now m)) marks.old.items }
     ensures len { vec_len marks.new ≤ vec_len marks.old }
@@ -201,7 +201,7 @@ fn firsts_of(alloc: Global, sorted: &[Mark]) -> Result<Vec<Mark>, AllocError>
     ensures { IfOk result (λ made. made.items ≡ firsts None sorted.now) }
 {
     let mut made = Vec::with_capacity(alloc, sorted.len())?;
-    let mut last: Option<Target> = None;
+    let mut last: Option<MarkTarget> = None;
     let mut rest = sorted;
     while let Some((mark, others)) = rest.split_first() {
         if !is_covered(&last, mark) {
@@ -213,7 +213,7 @@ fn firsts_of(alloc: Global, sorted: &[Mark]) -> Result<Vec<Mark>, AllocError>
     Ok(made)
 }
 
-fn is_covered(last: &Option<Target>, mark: &Mark) -> bool
+fn is_covered(last: &Option<MarkTarget>, mark: &Mark) -> bool
     ensures { result ≡ is_covered last.now mark.now }
 {
     match last {

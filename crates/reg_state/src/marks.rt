@@ -8,13 +8,13 @@ ghost use Rattle.reg_op.specs.Status.{is_enter};
 ghost use Rattle.reg_state.specs.MarkSets.{is_at};
 ghost use Rattle.reg_state.specs.Marks.{least_marks, marks_of_body, op_of};
 
-use crate::mark::{Mark, Target};
+use crate::mark::{Mark, MarkTarget};
 use crate::mark_set::Marks;
 use reg_op::{Op, OpBody, OpId};
 use std::alloc::{AllocError, Global};
 
 /// Whether the target is marked.
-pub fn is_marked(marks: &Marks, target: &Target) -> bool
+pub fn is_marked(marks: &Marks, target: &MarkTarget) -> bool
     ensures { result ≡ any (λ m. is_at target.now m) marks.now }
 {
     match marks.least(target) {
@@ -24,7 +24,7 @@ pub fn is_marked(marks: &Marks, target: &Target) -> bool
 }
 
 // Whether the target is marked by a lesser id.
-fn is_marked_before(marks: &Marks, target: &Target, id: OpId) -> bool
+fn is_marked_before(marks: &Marks, target: &MarkTarget, id: OpId) -> bool
     ensures { result ≡ any (λ m. is_at target.now m && is_before m.id id) marks.now }
 {
     match marks.least(target) {
@@ -42,7 +42,7 @@ pub fn is_replaced(marks: &Marks, op: &Op) -> bool
         OpBody::Enter(_) => false,
         OpBody::Retire { entry } => is_marked_before(
             marks,
-            &Target {
+            &MarkTarget {
                 entry: *entry,
                 by: None,
             },
@@ -50,13 +50,13 @@ pub fn is_replaced(marks: &Marks, op: &Op) -> bool
         ),
         OpBody::Supersede { old, newer } => is_marked(
             marks,
-            &Target {
+            &MarkTarget {
                 entry: *old,
                 by: None,
             },
         ) || is_marked_before(
             marks,
-            &Target {
+            &MarkTarget {
                 entry: *old,
                 by: Some(*newer),
             },
@@ -74,14 +74,14 @@ pub fn mark_of(op: &Op) -> Option<Mark>
     match op.body() {
         OpBody::Enter(_) => None,
         OpBody::Retire { entry } => {
-            let target = Target {
+            let target = MarkTarget {
                 entry: *entry,
                 by: None,
             };
             Some(Mark { target, id })
         }
         OpBody::Supersede { old, newer } => {
-            let target = Target {
+            let target = MarkTarget {
                 entry: *old,
                 by: Some(*newer),
             };

@@ -13,7 +13,7 @@ ghost use Rattle.reg_op.specs.Lists.{ById, has, content_at};
 ghost use Rattle.reg_state.specs.Marks.{marks_of_body};
 ghost use Rattle.reg_state.specs.RegisterLaws.{register_laws};
 
-use crate::mark::{Mark, Target};
+use crate::mark::{Mark, MarkTarget};
 use crate::mark_set::Marks;
 use crate::marks::{is_marked, is_replaced, mark_of, marks_of};
 use crate::merge::join_ops;
@@ -195,7 +195,7 @@ impl Register {
         if definition_in(&self.ops, entry).is_none() {
             return None;
         }
-        if is_marked(&self.marks, &Target { entry, by: None }) {
+        if is_marked(&self.marks, &MarkTarget { entry, by: None }) {
             return Some(Status::Retired);
         }
         if self.marks.is_touched(entry) {
@@ -209,7 +209,7 @@ impl Register {
         ensures { result ≡ any (λ o. is_supersession old (is_same newer) o.body) self.now.ops }
     {
         let by = Some(newer);
-        is_marked(&self.marks, &Target { entry: old, by })
+        is_marked(&self.marks, &MarkTarget { entry: old, by })
     }
 
     /// The definition that an id entered.

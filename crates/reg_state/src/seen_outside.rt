@@ -11,22 +11,22 @@ use std::alloc::{AllocError, Global};
 
 /// Two lists of runs; the ids of the second are removed from the first.
 #[derive(Clone, Copy)]
-pub(crate) struct Walk<'a> {
+pub(crate) struct RunWalk<'a> {
     lefts: &'a [Run],
     rights: &'a [Run],
     // The first run on the left has only the ids from this count on.
     low: u32,
 }
 
-impl<'a> Walk<'a> {
-    pub(crate) fn new(left: &'a [Run], right: &'a [Run]) -> Walk<'a>
+impl<'a> RunWalk<'a> {
+    pub(crate) fn new(left: &'a [Run], right: &'a [Run]) -> RunWalk<'a>
         requires left { AreRuns left.now }
         requires right { AreRuns right.now }
         requires ids { EndInIds left.now }
         ensures walk { IsWalk result }
         ensures same { (i : Id) → is_left result i ≡ is_outside left.now right.now i }
     {
-        Walk {
+        RunWalk {
             lefts: left,
             rights: right,
             low: 0,
@@ -34,16 +34,16 @@ impl<'a> Walk<'a> {
     }
 
     // The left list, from a count of its first run on, and the right list.
-    fn counted(lefts: &'a [Run], rights: &'a [Run], low: u32) -> Walk<'a>
+    fn counted(lefts: &'a [Run], rights: &'a [Run], low: u32) -> RunWalk<'a>
         ensures lefts { result.lefts.now ≡ lefts.now }
         ensures rights { result.rights.now ≡ rights.now }
         ensures low { result.low ≡ low }
     {
-        Walk { lefts, rights, low }
+        RunWalk { lefts, rights, low }
     }
 
     /// The first run outside, and the rest after it.
-    pub(crate) fn next_run(self) -> Option<(Run, Walk<'a>)>
+    pub(crate) fn next_run(self) -> Option<(Run, RunWalk<'a>)>
         requires { IsWalk self }
         ensures none { IfNone result ((i : Id) → is_left self.entry i ≡ false) }
         ensures taken { IfSome result (λ next. IsTaken self.entry next.0 next.1) }
@@ -59,13 +59,13 @@ impl<'a> Walk<'a> {
             if comes_before(other, &run) {
                 rights = rest;
             } else if comes_before(&run, other) {
-                return Some((run, Walk::counted(others, rights, 0)));
+                return Some((run, RunWalk::counted(others, rights, 0)));
             } else if run.low < other.low {
                 let front = Run {
                     high: other.low - 1,
                     ..run
                 };
-                return Some((front, Walk::counted(lefts, rights, other.low)));
+                return Some((front, RunWalk::counted(lefts, rights, other.low)));
             } else if other.high < run.high {
                 low = other.high + 1;
                 rights = rest;
@@ -78,7 +78,7 @@ impl<'a> Walk<'a> {
             return None;
         };
         let run = from_count(*first, low);
-        Some((run, Walk::counted(others, rights, 0)))
+        Some((run, RunWalk::counted(others, rights, 0)))
     }
 }
 
@@ -96,7 +96,7 @@ pub(crate) fn runs_outside(
     ensures outside { IfOk result (λ out. (i : Id) → is_in_runs i out.items ≡ is_outside left.now right.now i) }
 {
     let mut out = Vec::new(alloc);
-    let mut walk = Walk::new(left, right);
+    let mut walk = RunWalk::new(left, right);
     while let Some((run, rest)) = walk.next_run() {
         out.push(run)?;
         walk = rest;
@@ -112,7 +112,7 @@ pub(crate) fn first_id_outside(left: &[Run], right: &[Run]) -> Option<OpId>
     ensures none { IfNone result ((i : Id) → is_outside left.now right.now i ≡ false) }
     ensures least { IfSome result (λ id. IsLeastOf (is_outside left.now right.now) id) }
 {
-    let Some((run, _rest)) = Walk::new(left, right).next_run() else {
+    let Some((run, _rest)) = RunWalk::new(left, right).next_run() else {
         return None;
     };
     OpId::new(run.replica, run.low)

@@ -6,7 +6,7 @@ ghost use Rattle.reg_supersede.specs.Lists.{is_there, lacking, bodies_of};
 ghost use Rattle.reg_supersede.specs.Effects.{task_of, after, next, pair_fault, ArePairs, HasPairs, AddsPair, IsPairFault, IsAddFault, CanMake, CanAdd};
 
 use crate::fault::LineFault;
-use crate::list_options::{Effects, ListOptions};
+use crate::list_options::{ListEffects, ListOptions};
 use crate::pair::Pair;
 use reg_office::OfficeFault;
 use reg_op::Note;
@@ -39,7 +39,7 @@ fn pair_fault(register: &Register, pair: Pair) -> Option<OfficeFault>
 }
 
 // Whether the old entry is superseded by the newer one already, in the register or by an earlier line.
-fn is_there(options: &ListOptions<'_>, effects: &Effects, pair: Pair) -> bool
+fn is_there(options: &ListOptions<'_>, effects: &ListEffects, pair: Pair) -> bool
     requires made { CanMake (task_of options.now) options.now.register.now effects.now.bodies.items }
     requires pairs { ArePairs effects.now.pairs effects.now.bodies.items }
     ensures { result ≡ is_there (after (task_of options.now) options.now.register.now effects.now.bodies.items).ops pair }
@@ -63,7 +63,7 @@ struct Added {
 // Adds one pair more, unless it is there.
 fn add_pair(
     options: &ListOptions<'_>,
-    effects: &Effects,
+    effects: &ListEffects,
     added: &mut Added,
     pair: Pair,
 ) -> Result<(), LineFault>
@@ -96,7 +96,7 @@ fn add_pair(
 fn lacking(
     alloc: Global,
     options: &ListOptions<'_>,
-    effects: &Effects,
+    effects: &ListEffects,
     pairs: &[Pair],
 ) -> Result<Vec<Pair>, LineFault>
     requires made { CanMake (task_of options.now) options.now.register.now effects.now.bodies.items }
@@ -128,7 +128,7 @@ fn last_count(options: &ListOptions<'_>) -> u32
 }
 
 // Whether the last number would be out of range.
-fn is_spent(options: &ListOptions<'_>, effects: &Effects, pairs: &[Pair]) -> bool
+fn is_spent(options: &ListOptions<'_>, effects: &ListEffects, pairs: &[Pair]) -> bool
     requires { greatest options.now.replica options.now.register.now.seen + length effects.now.bodies.items ≤ 4294967295 }
     ensures { result ≡ nat_lt 4294967295 (greatest options.now.replica options.now.register.now.seen + length effects.now.bodies.items + length pairs.now) }
 {
@@ -150,7 +150,7 @@ fn note_fault(note: &str) -> Option<OfficeFault>
 pub fn pairs_to_add(
     alloc: Global,
     options: &ListOptions<'_>,
-    effects: &Effects,
+    effects: &ListEffects,
     pairs: &[Pair],
 ) -> Result<Vec<Pair>, LineFault>
     requires made { CanMake (task_of options.now) options.now.register.now effects.now.bodies.items }

@@ -9,7 +9,7 @@ ghost use Rattle.reg_supersede.specs.Effects.{task_of, after, ids_of, ArePairs, 
 use crate::check::pairs_to_add;
 use crate::fault::{LineFault, LineWord, RefusedLine};
 use crate::lines::words_of;
-use crate::list_options::{Effects, ListOptions};
+use crate::list_options::{ListEffects, ListOptions};
 use crate::naming::{LineEntries, entries_for};
 use crate::pair::{Pair, pairs_of};
 use reg_op::OpBody;
@@ -20,7 +20,7 @@ use std::collections::BTreeSet;
 fn allowed(
     alloc: Global,
     options: &ListOptions<'_>,
-    effects: &Effects,
+    effects: &ListEffects,
     line: &[u8],
 ) -> Result<Vec<Pair>, LineFault>
     requires index { IsIndex options.now.index.now (rows_if options.now.keys options.now.register.now) }
@@ -42,7 +42,7 @@ fn allowed(
 fn allowed_for(
     alloc: Global,
     options: &ListOptions<'_>,
-    effects: &Effects,
+    effects: &ListEffects,
     words: &[&[u8]],
 ) -> Result<Vec<Pair>, LineFault>
     requires index { IsIndex options.now.index.now (rows_if options.now.keys options.now.register.now) }
@@ -77,7 +77,7 @@ fn allowed_for(
 }
 
 // Appends the effects of a line.
-fn push_line(effects: &mut Effects, pairs: &[Pair]) -> Result<(), AllocError>
+fn push_line(effects: &mut ListEffects, pairs: &[Pair]) -> Result<(), AllocError>
     requires { ArePairs effects.old.pairs effects.old.bodies.items }
     ensures bodies { OnOk result (effects.new.bodies.items ≡ effects.old.bodies.items ++ bodies_of pairs.now) }
     ensures pairs { OnOk result (ArePairs effects.new.pairs effects.new.bodies.items) }
@@ -94,7 +94,7 @@ fn push_line(effects: &mut Effects, pairs: &[Pair]) -> Result<(), AllocError>
 fn step(
     alloc: Global,
     options: &ListOptions<'_>,
-    effects: &mut Effects,
+    effects: &mut ListEffects,
     left: &mut Vec<RefusedLine>,
     number: usize,
     line: &[u8],
@@ -174,7 +174,7 @@ pub fn all_lines(
     ensures fault { IfErr result (IsListFault (task_of options.now) options.now.register.now (map (λ w. w.now) lines.now)) }
 {
     let _content = options.register.seen();
-    let mut effects = Effects {
+    let mut effects = ListEffects {
         bodies: Vec::new(alloc),
         pairs: BTreeSet::new(alloc),
     };
@@ -182,6 +182,6 @@ pub fn all_lines(
     for (at, line) in lines.iter().enumerate() {
         step(alloc, options, &mut effects, &mut left, at + 1, *line)?;
     }
-    let Effects { bodies, pairs: _ } = effects;
+    let ListEffects { bodies, pairs: _ } = effects;
     Ok(Listed { bodies, left })
 }

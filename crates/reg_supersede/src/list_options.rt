@@ -21,7 +21,7 @@ pub struct ListOptions<'a> {
 
 /// The effects of the lines so far, and the same as a set of pairs.
 #[derive(Drop)]
-pub struct Effects {
+pub struct ListEffects {
     pub bodies: Vec<OpBody>,
     pub pairs: BTreeSet<Pair>,
 }

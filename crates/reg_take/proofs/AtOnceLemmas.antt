@@ -15,7 +15,7 @@ use Rattle.reg_tree.specs.Chain.{with_pieces}
 use Rattle.reg_commands.specs.Merge.{begun}
 use Rattle.reg_take.specs.declared.files.Arrival.{Arrival}
 use Rattle.reg_take.specs.declared.files.Arrival.TheVariants as arrival
-use Rattle.reg_take.specs.declared.taking.Phase.TheVariants as phase
+use Rattle.reg_take.specs.declared.taking.TakePhase.TheVariants as phase
 use Rattle.reg_take.specs.declared.taking.Taking.{Taking}
 use Rattle.reg_take.specs.Taken.{Progress, Shows, after_register, after_piece, each_taken}
 use Rattle.reg_take.specs.AtOnce.{registers_in, pieces_in}

@@ -13,8 +13,8 @@ use Rattle.reg_take.specs.declared.files.Arrival.{Arrival}
 use Rattle.reg_take.specs.declared.files.Arrival.TheVariants as arrival
 use Rattle.reg_take.specs.declared.taking.LeftOut.{LeftOut}
 use Rattle.reg_take.specs.declared.taking.LeftOut.TheVariants as left
-use Rattle.reg_take.specs.declared.taking.Phase.{Phase}
-use Rattle.reg_take.specs.declared.taking.Phase.TheVariants as phase
+use Rattle.reg_take.specs.declared.taking.TakePhase.{TakePhase}
+use Rattle.reg_take.specs.declared.taking.TakePhase.TheVariants as phase
 use Rattle.reg_take.specs.Taken.{Progress, fault_of, left_out, leaving, starting, after_register, after_piece, taken, each_taken, sorted, all_taken, parts_given}
 use Rattle.reg_take.proofs.TakenLemmas.{each_keeps}
 
@@ -34,7 +34,7 @@ piece_begins : (l : LeftOut) (t : Progress) (i : ℕ) (p : Piece) (r : Result Co
 piece_begins l t i p (Ok y) h = h
 piece_begins l t i p (Err r) h = more_begins l (left_out i r) t.left h
 
-step_begins : (l : LeftOut) (w : Phase) (t : Progress) (i : ℕ) (a : Arrival) → Begins l t.left → Begins l (taken w t i a).left
+step_begins : (l : LeftOut) (w : TakePhase) (t : Progress) (i : ℕ) (a : Arrival) → Begins l t.left → Begins l (taken w t i a).left
 step_begins l phase.Unread t i (arrival.Unread k f) h = more_begins l (left.Unread i k f) t.left h
 step_begins l phase.Unread t i (arrival.Register z) h = h
 step_begins l phase.Unread t i (arrival.Piece p) h = h
@@ -52,7 +52,7 @@ step_begins l phase.Pieces t i (arrival.Register z) h = h
 step_begins l phase.Pieces t i (arrival.Forged id) h = h
 step_begins l phase.Pieces t i (arrival.Piece p) h = piece_begins l t i p (joined_piece t.content p) h
 
-walk_begins : (l : LeftOut) (w : Phase) (t : Progress) (i : ℕ) (gave : List Arrival) → Begins l t.left → Begins l (each_taken w t i gave).left
+walk_begins : (l : LeftOut) (w : TakePhase) (t : Progress) (i : ℕ) (gave : List Arrival) → Begins l t.left → Begins l (each_taken w t i gave).left
 walk_begins l w t i gave h = each_keeps (λ u. Begins l u.left) w (step_begins l w) t i gave h
 
 first_begins : (l : LeftOut) (all : List LeftOut) → all ≡ [] → Begins l (all ++ l ∷ [])

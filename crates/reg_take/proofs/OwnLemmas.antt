@@ -24,8 +24,8 @@ use Rattle.reg_take.specs.declared.files.Arrival.{Arrival}
 use Rattle.reg_take.specs.declared.files.Arrival.TheVariants as arrival
 use Rattle.reg_take.specs.declared.taking.LeftOut.{LeftOut}
 use Rattle.reg_take.specs.declared.taking.LeftOut.TheVariants as left
-use Rattle.reg_take.specs.declared.taking.Phase.{Phase}
-use Rattle.reg_take.specs.declared.taking.Phase.TheVariants as phase
+use Rattle.reg_take.specs.declared.taking.TakePhase.{TakePhase}
+use Rattle.reg_take.specs.declared.taking.TakePhase.TheVariants as phase
 use Rattle.reg_take.specs.Files.{FileState, brought, arrived, content_of, judged, IsHonestTo, IsArrival, AreArrivals}
 use Rattle.reg_take.specs.Taken.{Progress, starting, after_register, after_piece, taken, each_taken, sorted, all_taken, with_none_left, tried_piece, tried, each_tried, tried_again, rounds, IsFar, IsTakenFrom}
 use Rattle.reg_take.specs.Take.{Takes}
@@ -104,7 +104,7 @@ module _ (f : Journal) where
   piece_has t i p (Ok y) e fine h = subst Has (piece_is t.content p y e) (merged_has t.content (part_of p) h fine)
   piece_has t i p (Err r) e fine h = h
 
-  step_has : (w : Phase) (t : Progress) (i : ℕ) (a : Arrival) → Fine a → Has t.content → Has (taken w t i a).content
+  step_has : (w : TakePhase) (t : Progress) (i : ℕ) (a : Arrival) → Fine a → Has t.content → Has (taken w t i a).content
   step_has phase.Unread t i (arrival.Unread k g) fine h = h
   step_has phase.Unread t i (arrival.Forged id) fine h = h
   step_has phase.Unread t i (arrival.Register z) fine h = h
@@ -128,7 +128,7 @@ module _ (f : Journal) where
   AllFine [] = Unit {0}
   AllFine (a ∷ gave) = Fine a × AllFine gave
 
-  walk_has : (w : Phase) (t : Progress) (i : ℕ) (gave : List Arrival) → AllFine gave → Has t.content → Has (each_taken w t i gave).content
+  walk_has : (w : TakePhase) (t : Progress) (i : ℕ) (gave : List Arrival) → AllFine gave → Has t.content → Has (each_taken w t i gave).content
   walk_has w t i [] fine h = h
   walk_has w t i (a ∷ gave) fine h = walk_has w (taken w t i a) (i + 1) gave fine.1 (step_has w t i a fine.0 h)
 

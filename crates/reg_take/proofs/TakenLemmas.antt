@@ -12,8 +12,8 @@ use Rattle.reg_tree.specs.Chain.{with_piece, with_pieces}
 use Rattle.reg_commands.specs.Merge.{begun}
 use Rattle.reg_take.specs.declared.files.Arrival.{Arrival}
 use Rattle.reg_take.specs.declared.files.Arrival.TheVariants as arrival
-use Rattle.reg_take.specs.declared.taking.Phase.{Phase}
-use Rattle.reg_take.specs.declared.taking.Phase.TheVariants as phase
+use Rattle.reg_take.specs.declared.taking.TakePhase.{TakePhase}
+use Rattle.reg_take.specs.declared.taking.TakePhase.TheVariants as phase
 use Rattle.reg_take.specs.declared.taking.LeftOut.{LeftOut}
 use Rattle.reg_take.specs.declared.taking.Taking.{Taking}
 use Rattle.reg_take.specs.Taken.{Progress, Shows, left_out, leaving, starting, after_register, after_piece, taken, each_taken, sorted, all_taken, rounds, AllWait, IsJoin, Keeps, IsTakenFrom, IsRefusal}
@@ -51,7 +51,7 @@ why_not x p r basis clash (piece.Clash id) why e is = (clash id).0 e ∙ ap Err 
 why_not x p r basis clash piece.Memory why e is = absurd is
 
 -- one step of a walk
-pub one_taken : (w : Phase) (t : Progress) (i : ℕ) (a : Arrival) (gave : List Arrival) → drop i gave ≡ a ∷ drop (i + 1) gave
+pub one_taken : (w : TakePhase) (t : Progress) (i : ℕ) (a : Arrival) (gave : List Arrival) → drop i gave ≡ a ∷ drop (i + 1) gave
     → each_taken w t i (drop i gave) ≡ each_taken w (taken w t i a) (i + 1) (drop (i + 1) gave)
 one_taken w t i a gave e = ap (each_taken w t i) e
 
@@ -62,13 +62,13 @@ drop_past (suc i) [] past = refl
 drop_past (suc i) (a ∷ all) past = drop_past i all (omega (arith, past))
 
 -- after the last file, the walk is complete
-pub walked : (w : Phase) (now t : Progress) (i : ℕ) (gave : List Arrival) (taking : Taking) → length gave ≤ i → each_taken w now i (drop i gave) ≡ each_taken w t 0 gave → Shows taking now
+pub walked : (w : TakePhase) (now t : Progress) (i : ℕ) (gave : List Arrival) (taking : Taking) → length gave ≤ i → each_taken w now i (drop i gave) ≡ each_taken w t 0 gave → Shows taking now
     → Shows taking (each_taken w t 0 gave)
 walked w now t i gave taking past e shows = subst (Shows taking) (sym (ap (each_taken w now i) (drop_past i gave past)) ∙ e) shows
 
 -- ---- a property that each step keeps is kept by a walk
 
-pub each_keeps : (P : Progress → Type 0) (w : Phase) → ((t : Progress) (i : ℕ) (a : Arrival) → P t → P (taken w t i a)) → (t : Progress) (i : ℕ) (gave : List Arrival) → P t → P (each_taken w t i gave)
+pub each_keeps : (P : Progress → Type 0) (w : TakePhase) → ((t : Progress) (i : ℕ) (a : Arrival) → P t → P (taken w t i a)) → (t : Progress) (i : ℕ) (gave : List Arrival) → P t → P (each_taken w t i gave)
 each_keeps P w keeps t i [] h = h
 each_keeps P w keeps t i (a ∷ gave) h = each_keeps P w keeps (taken w t i a) (i + 1) gave (keeps t i a h)
 
@@ -163,7 +163,7 @@ module _ (x : Content) where
   piece_has t i p (Ok y) e h = has_more t.content (part_of p) y (piece_is t.content p y e) h
   piece_has t i p (Err r) e h = h
 
-  step_has : (w : Phase) (t : Progress) (i : ℕ) (a : Arrival) → Keeps x t.content → Keeps x (taken w t i a).content
+  step_has : (w : TakePhase) (t : Progress) (i : ℕ) (a : Arrival) → Keeps x t.content → Keeps x (taken w t i a).content
   step_has phase.Unread t i (arrival.Unread k f) h = h
   step_has phase.Unread t i (arrival.Forged id) h = h
   step_has phase.Unread t i (arrival.Register z) h = h

@@ -16,8 +16,8 @@ use Rattle.reg_take.specs.declared.files.Arrival.{Arrival}
 use Rattle.reg_take.specs.declared.files.Arrival.TheVariants as arrival
 use Rattle.reg_take.specs.declared.taking.LeftOut.{LeftOut}
 use Rattle.reg_take.specs.declared.taking.LeftOut.TheVariants as left
-use Rattle.reg_take.specs.declared.taking.Phase.{Phase}
-use Rattle.reg_take.specs.declared.taking.Phase.TheVariants as phase
+use Rattle.reg_take.specs.declared.taking.TakePhase.{TakePhase}
+use Rattle.reg_take.specs.declared.taking.TakePhase.TheVariants as phase
 use Rattle.reg_take.specs.declared.taking.Taking.{Taking}
 
 -- the content so far, the registers and the pieces that it was joined with, and the files that are left out
@@ -73,7 +73,7 @@ after_piece t i p (Ok y) = record { content = y; registers = t.registers; pieces
 after_piece t i p (Err r) = leaving t (left_out i r)
 
 -- what a walk does with one file: one leaves out what was not read, one what has forged numbers; one joins the registers, one the pieces
-abbrev pub taken : Phase → Progress → ℕ → Arrival → Progress
+abbrev pub taken : TakePhase → Progress → ℕ → Arrival → Progress
 taken phase.Unread t i (arrival.Register z) = t
 taken phase.Unread t i (arrival.Piece p) = t
 taken phase.Unread t i (arrival.Unread k f) = leaving t (left.Unread i k f)
@@ -92,7 +92,7 @@ taken phase.Pieces t i (arrival.Unread k f) = t
 taken phase.Pieces t i (arrival.Forged id) = t
 
 -- with each file in order; the first one has this index
-abbrev pub each_taken : Phase → Progress → ℕ → List Arrival → Progress
+abbrev pub each_taken : TakePhase → Progress → ℕ → List Arrival → Progress
 each_taken w t i [] = t
 each_taken w t i (a ∷ gave) = each_taken w (taken w t i a) (i + 1) gave
 

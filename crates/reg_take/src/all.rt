@@ -4,7 +4,7 @@ ghost use Rattle.std.specs.Prelude.{IfOk};
 ghost use Rattle.reg_take.specs.Taken.{IsTakenFrom};
 
 use crate::files::Arrival;
-use crate::taking::{Phase, Taking};
+use crate::taking::{TakePhase, Taking};
 use reg_state::Register;
 use std::alloc::{AllocError, Global};
 
@@ -24,8 +24,8 @@ pub(crate) fn take_all(
         register: register.try_clone(alloc)?,
         left: Vec::new(alloc),
     };
-    let unread = taking.walk(alloc, Phase::Unread, arrivals)?;
-    let honest = unread.walk(alloc, Phase::Forged, arrivals)?;
+    let unread = taking.walk(alloc, TakePhase::Unread, arrivals)?;
+    let honest = unread.walk(alloc, TakePhase::Forged, arrivals)?;
     let joined = honest.take_registers(alloc, arrivals)?;
     let walked = joined.take_pieces(alloc, arrivals)?;
     if keep_going {

@@ -3,10 +3,10 @@
 ghost use Rattle.std.specs.Prelude.{◌≡◌, ◌++◌, [], ◌∷◌, IfOk, OnOk};
 ghost use Rattle.reg_take.specs.Taken.{Progress, Shows, each_taken};
 ghost use Rattle.reg_take.specs.AtOnce.{registers_in, pieces_in};
-ghost use Rattle.reg_take.specs.declared.taking.Phase.TheVariants as phase;
+ghost use Rattle.reg_take.specs.declared.taking.TakePhase.TheVariants as phase;
 
 use crate::files::Arrival;
-use crate::taking::{Phase, Taking};
+use crate::taking::{TakePhase, Taking};
 use reg_op::Op;
 use reg_state::{JoinFault, Piece, PieceFault, Register};
 use reg_tree::{join_pieces, join_registers};
@@ -109,13 +109,13 @@ impl Taking {
         ensures { (t : Progress) → Shows self t → IfOk result (λ new. Shows new (each_taken phase.Registers t 0 arrivals.now)) }
     {
         if arrivals.len() < 3 {
-            return self.walk(alloc, Phase::Registers, arrivals);
+            return self.walk(alloc, TakePhase::Registers, arrivals);
         }
         let _seen = self.register.seen();
         let all = with_registers(alloc, &self.register, arrivals)?;
         match join_registers(alloc, &all) {
             Ok(joined) => Ok(self.with(joined)),
-            Err(JoinFault::Clash(_)) => self.walk(alloc, Phase::Registers, arrivals),
+            Err(JoinFault::Clash(_)) => self.walk(alloc, TakePhase::Registers, arrivals),
             Err(JoinFault::Memory) => Err(AllocError),
         }
     }
@@ -130,13 +130,13 @@ impl Taking {
     {
         let pieces = copies_of_pieces(alloc, arrivals)?;
         if pieces.len() < 3 {
-            return self.walk(alloc, Phase::Pieces, arrivals);
+            return self.walk(alloc, TakePhase::Pieces, arrivals);
         }
         let register = self.register.try_clone(alloc)?;
         match join_pieces(alloc, register, &pieces) {
             Ok(joined) => Ok(self.with(joined)),
             Err(PieceFault::Memory) => Err(AllocError),
-            Err(_) => self.walk(alloc, Phase::Pieces, arrivals),
+            Err(_) => self.walk(alloc, TakePhase::Pieces, arrivals),
         }
     }
 }

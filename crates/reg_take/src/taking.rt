@@ -83,7 +83,7 @@ impl fmt::Display for LeftOut {
 /// What a walk over the files does: it leaves out those that were not read, or those with forged numbers; it joins the registers, or
 /// the pieces.
 #[derive(Clone, Copy)]
-pub enum Phase {
+pub enum TakePhase {
     Unread,
     Forged,
     Registers,
@@ -168,7 +168,7 @@ impl Taking {
     fn step(
         self,
         alloc: Global,
-        phase: Phase,
+        phase: TakePhase,
         file: usize,
         arrival: &Arrival,
     ) -> Result<Taking, AllocError>
@@ -176,32 +176,32 @@ impl Taking {
     {
         match arrival {
             Arrival::Unread { number, fault } => match phase {
-                Phase::Unread => self.leave(LeftOut::Unread {
+                TakePhase::Unread => self.leave(LeftOut::Unread {
                     file,
                     number: *number,
                     fault: *fault,
                 }),
-                Phase::Forged => Ok(self),
-                Phase::Registers => Ok(self),
-                Phase::Pieces => Ok(self),
+                TakePhase::Forged => Ok(self),
+                TakePhase::Registers => Ok(self),
+                TakePhase::Pieces => Ok(self),
             },
             Arrival::Register(register) => match phase {
-                Phase::Unread => Ok(self),
-                Phase::Forged => Ok(self),
-                Phase::Registers => self.take_register(alloc, file, register),
-                Phase::Pieces => Ok(self),
+                TakePhase::Unread => Ok(self),
+                TakePhase::Forged => Ok(self),
+                TakePhase::Registers => self.take_register(alloc, file, register),
+                TakePhase::Pieces => Ok(self),
             },
             Arrival::Piece(piece) => match phase {
-                Phase::Unread => Ok(self),
-                Phase::Forged => Ok(self),
-                Phase::Registers => Ok(self),
-                Phase::Pieces => self.take_piece(alloc, file, piece),
+                TakePhase::Unread => Ok(self),
+                TakePhase::Forged => Ok(self),
+                TakePhase::Registers => Ok(self),
+                TakePhase::Pieces => self.take_piece(alloc, file, piece),
             },
             Arrival::Forged(id) => match phase {
-                Phase::Unread => Ok(self),
-                Phase::Forged => self.leave(LeftOut::Forged { file, id: *id }),
-                Phase::Registers => Ok(self),
-                Phase::Pieces => Ok(self),
+                TakePhase::Unread => Ok(self),
+                TakePhase::Forged => self.leave(LeftOut::Forged { file, id: *id }),
+                TakePhase::Registers => Ok(self),
+                TakePhase::Pieces => Ok(self),
             },
         }
     }
@@ -210,7 +210,7 @@ impl Taking {
     pub(crate) fn walk(
         self,
         alloc: Global,
-        phase: Phase,
+        phase: TakePhase,
         arrivals: &[Arrival],
     ) -> Result<Taking, AllocError>
         ensures { (t : Progress) → Shows self t → IfOk result (λ new. Shows new (each_taken phase t 0 arrivals.now)) }

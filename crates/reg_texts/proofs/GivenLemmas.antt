@@ -6,8 +6,8 @@ use Rattle.reg_op.specs.Rows.{Row}
 use Rattle.reg_report.specs.declared.row.Row.{Row as MadeRow}
 use Rattle.reg_texts.specs.Compare.{seen_rows, IsChosen}
 use Rattle.reg_texts.specs.Gathered.{Each}
-use Rattle.reg_texts.specs.declared.against.Unread.{Unread}
-use Rattle.reg_texts.specs.declared.against.Unread.TheVariants as unread
+use Rattle.reg_texts.specs.declared.against.UnreadTexts.{UnreadTexts}
+use Rattle.reg_texts.specs.declared.against.UnreadTexts.TheVariants as unread
 use Rattle.reg_texts.specs.Given.{Defines, IsRival, IsUnread, IsTextOrNone, IsTold, IsFirstLeft, IsFirstUnread, IsFileUnread, earlier}
 use Rattle.wkt_texts.specs.Texts.{IsCutInto}
 use Rattle.crs_value.specs.declared.key.Key.{Key}
@@ -19,28 +19,28 @@ use Rattle.reg_keys.proofs.IndexLemmas.{key_spelled}
 
 -- each fault of `rest` is a fault of `all`
 abbrev pub Passes : List Piece → List Piece → Type 0
-Passes all rest = (f : Unread) → IsFirstUnread rest f → IsFirstUnread all f
+Passes all rest = (f : UnreadTexts) → IsFirstUnread rest f → IsFirstUnread all f
 
 pub passes_more : (all rest others : List Piece) (c : Piece) (d : List ℕ) → rest ≡ c ∷ others → Defines c.bytes d → Passes all rest → Passes all others
 passes_more all rest others c d first defines p f later = p f (subst (λ l. IsFirstUnread l f) (sym first) (inr ((d, defines), later)))
 
-pub passes_here : (all rest others : List Piece) (c : Piece) (f : Unread) → rest ≡ c ∷ others → IsUnread c f → Passes all rest → IsFirstUnread all f
+pub passes_here : (all rest others : List Piece) (c : Piece) (f : UnreadTexts) → rest ≡ c ∷ others → IsUnread c f → Passes all rest → IsFirstUnread all f
 passes_here all rest others c f first is p = p f (subst (λ l. IsFirstUnread l f) (sym first) (inl is))
 
 -- ---- texts that are passed over
 
-pub text_or_none : (name : List ℕ) (rs : List Row) (c : Piece) (mine : List ℕ) (left : Option Unread) → IsTold name rs c mine left → IsTextOrNone name rs c mine
+pub text_or_none : (name : List ℕ) (rs : List Row) (c : Piece) (mine : List ℕ) (left : Option UnreadTexts) → IsTold name rs c mine left → IsTextOrNone name rs c mine
 text_or_none name rs c mine None told = inl told
 text_or_none name rs c mine (Some u) told = inr ((u, told.0, told.1), told.2)
 
 -- the reasons of `rest`, behind the first one so far, are those of `all`
-abbrev pub Leaves : List Piece → List Piece → Option Unread → Type 0
-Leaves all rest first = (later : Option Unread) → IsFirstLeft rest later → IsFirstLeft all (earlier first later)
+abbrev pub Leaves : List Piece → List Piece → Option UnreadTexts → Type 0
+Leaves all rest first = (later : Option UnreadTexts) → IsFirstLeft rest later → IsFirstLeft all (earlier first later)
 
 pub leaves_none : (all : List Piece) → Leaves all all None
 leaves_none all later l = l
 
-pub leaves_more : (name : List ℕ) (rs : List Row) (all rest others : List Piece) (c : Piece) (mine : List ℕ) (first left : Option Unread) → rest ≡ c ∷ others → IsTold name rs c mine left → Leaves all rest first
+pub leaves_more : (name : List ℕ) (rs : List Row) (all rest others : List Piece) (c : Piece) (mine : List ℕ) (first left : Option UnreadTexts) → rest ≡ c ∷ others → IsTold name rs c mine left → Leaves all rest first
     → Leaves all others (earlier first left)
 leaves_more name rs all rest others c mine (Some u) None e told leaves later l =
     leaves later (subst (λ r. IsFirstLeft r later) (sym e) (inl ((told.0, told.1), l)))
@@ -51,10 +51,10 @@ leaves_more name rs all rest others c mine None None e told leaves later l =
 leaves_more name rs all rest others c mine None (Some v) e told leaves later l =
     leaves (Some v) (subst (λ r. IsFirstLeft r (Some v)) (sym e) (inr (v, told.0, told.1, refl)))
 
-pub leaves_all : (all rest : List Piece) (first : Option Unread) → rest ≡ [] → Leaves all rest first → IsFirstLeft all first
+pub leaves_all : (all rest : List Piece) (first : Option UnreadTexts) → rest ≡ [] → Leaves all rest first → IsFirstLeft all first
 leaves_all all rest first e leaves = subst (IsFirstLeft all) (same first) (leaves None (subst (λ r. IsFirstLeft r None) (sym e) refl))
   where
-    same : (o : Option Unread) → earlier o None ≡ o
+    same : (o : Option UnreadTexts) → earlier o None ≡ o
     same None = refl
     same (Some u) = refl
 
@@ -62,7 +62,7 @@ pub some_seen : (rs : List (Bor MadeRow)) → rs ≢ [] → seen_rows rs ≢ []
 some_seen [] some none = some refl
 some_seen (r ∷ rs) some none = absurd (omega (arith, ap length none))
 
-pub file_unread : (file : List ℕ) (cuts : List Piece) (f : Unread) → IsCutInto file cuts → IsFirstUnread cuts f → IsFileUnread file f
+pub file_unread : (file : List ℕ) (cuts : List Piece) (f : UnreadTexts) → IsCutInto file cuts → IsFirstUnread cuts f → IsFileUnread file f
 file_unread file cuts (unread.Refused f at place len) cut first = (cuts, cut, first)
 file_unread file cuts unread.Memory cut first = tt
 

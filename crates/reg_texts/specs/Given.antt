@@ -11,8 +11,8 @@ use Rattle.wkt_texts.specs.Texts.{IsCutInto}
 use Rattle.reg_op.specs.Contents.{Content}
 use Rattle.reg_op.specs.Rows.{Row, rows}
 use Rattle.reg_report.specs.Conflicts.{KeyBytes, HasKey}
-use Rattle.reg_texts.specs.declared.against.Unread.{Unread}
-use Rattle.reg_texts.specs.declared.against.Unread.TheVariants as unread
+use Rattle.reg_texts.specs.declared.against.UnreadTexts.{UnreadTexts}
+use Rattle.reg_texts.specs.declared.against.UnreadTexts.TheVariants as unread
 use Rattle.reg_texts.specs.declared.version.Version.{Version}
 use Rattle.reg_texts.specs.Said.{IsLive}
 use Rattle.reg_texts.specs.Listing.{on_line, key_text}
@@ -79,12 +79,12 @@ abbrev pub IsFileAgainst : List ℕ → List ℕ → Content → List ℕ → Ty
 IsFileAgainst name file x text = (cuts : List Piece) × IsCutInto file cuts × Each (IsTextAgainst name (rows x.ops)) cuts text
 
 -- the text is not a definition, for this reason, with the place of its fault, or of its first byte, in the file; or memory ran out
-abbrev pub IsUnread : Piece → Unread → Type 0
+abbrev pub IsUnread : Piece → UnreadTexts → Type 0
 IsUnread c (unread.Refused f at place len) = IsTextFault c.bytes f × (f ≢ NoMemory) × (at ≡ c.place + unwrap_or (fault_place f) 0) × (place ≡ c.place) × (len ≡ length c.bytes)
 IsUnread c unread.Memory = Unit {0}
 
 -- why the first of some texts that are not definitions is not one
-abbrev pub IsFirstUnread : List Piece → Unread → Type 0
+abbrev pub IsFirstUnread : List Piece → UnreadTexts → Type 0
 IsFirstUnread [] f = f ≡ unread.Memory
 IsFirstUnread (c ∷ cs) f = IsUnread c f ⊎ (((d : List ℕ) × Defines c.bytes d) × IsFirstUnread cs f)
 
@@ -92,27 +92,27 @@ IsFirstUnread (c ∷ cs) f = IsUnread c f ⊎ (((d : List ℕ) × Defines c.byte
 
 -- the text against its entries; or nothing, if it is not a definition
 abbrev pub IsTextOrNone : List ℕ → List Row → Piece → List ℕ → Type 0
-IsTextOrNone name rs c text = IsTextAgainst name rs c text ⊎ (((u : Unread) × IsUnread c u × (u ≢ unread.Memory)) × (text ≡ []))
+IsTextOrNone name rs c text = IsTextAgainst name rs c text ⊎ (((u : UnreadTexts) × IsUnread c u × (u ≢ unread.Memory)) × (text ≡ []))
 
 -- what one text adds, and why it is not a definition if it is none
-abbrev pub IsTold : List ℕ → List Row → Piece → List ℕ → Option Unread → Type 0
+abbrev pub IsTold : List ℕ → List Row → Piece → List ℕ → Option UnreadTexts → Type 0
 IsTold name rs c text None = IsTextAgainst name rs c text
 IsTold name rs c text (Some u) = IsUnread c u × (u ≢ unread.Memory) × (text ≡ [])
 
-abbrev pub earlier : Option Unread → Option Unread → Option Unread
+abbrev pub earlier : Option UnreadTexts → Option UnreadTexts → Option UnreadTexts
 earlier (Some u) next = Some u
 earlier None next = next
 
 -- why the first of some texts that is not a definition is not one, if there is such a text
-abbrev pub IsFirstLeft : List Piece → Option Unread → Type 0
+abbrev pub IsFirstLeft : List Piece → Option UnreadTexts → Type 0
 IsFirstLeft [] first = first ≡ None
-IsFirstLeft (c ∷ cs) first = (((d : List ℕ) × Defines c.bytes d) × IsFirstLeft cs first) ⊎ ((u : Unread) × IsUnread c u × (u ≢ unread.Memory) × (first ≡ Some u))
+IsFirstLeft (c ∷ cs) first = (((d : List ℕ) × Defines c.bytes d) × IsFirstLeft cs first) ⊎ ((u : UnreadTexts) × IsUnread c u × (u ≢ unread.Memory) × (first ≡ Some u))
 
 -- what differs between each text of the file that is a definition and the entries of its key, and why the first other text is none
-abbrev pub IsFileAgainstWhereRead : List ℕ → List ℕ → Content → List ℕ → Option Unread → Type 0
+abbrev pub IsFileAgainstWhereRead : List ℕ → List ℕ → Content → List ℕ → Option UnreadTexts → Type 0
 IsFileAgainstWhereRead name file x text first = (cuts : List Piece) × IsCutInto file cuts × Each (IsTextOrNone name (rows x.ops)) cuts text × IsFirstLeft cuts first
 
 -- the same of the texts of a file
-abbrev pub IsFileUnread : List ℕ → Unread → Type 0
+abbrev pub IsFileUnread : List ℕ → UnreadTexts → Type 0
 IsFileUnread file (unread.Refused f at place len) = (cuts : List Piece) × IsCutInto file cuts × IsFirstUnread cuts (unread.Refused f at place len)
 IsFileUnread file unread.Memory = Unit {0}

@@ -15,7 +15,7 @@ use Rattle.crs_part.specs.declared.usages.Usage.{Usage}
 use Rattle.crs_search.specs.Usages.{usages_of}
 use Rattle.reg_texts.specs.Listing.{successor_text}
 use Rattle.reg_texts.specs.Said.{Said}
-use Rattle.reg_texts.specs.declared.key_fields.Sides.{Sides}
+use Rattle.reg_texts.specs.declared.key_fields.BoxNumerals.{BoxNumerals}
 
 -- ---- the kind
 
@@ -57,7 +57,7 @@ abbrev pub sides_of : Option BoundingBox → SideTexts
 sides_of None = record { south = []; west = []; north = []; east = [] }
 sides_of (Some b) = record { south = numeral b.south; west = numeral b.west; north = numeral b.north; east = numeral b.east }
 
-abbrev pub side_texts : Sides → SideTexts
+abbrev pub side_texts : BoxNumerals → SideTexts
 side_texts s = record { south = s.south.items; west = s.west.items; north = s.north.items; east = s.east.items }
 
 -- ---- the status: a text is valid if some entry with it is valid

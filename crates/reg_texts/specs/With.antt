@@ -10,8 +10,8 @@ use Rattle.reg_op.specs.Rows.{rows}
 use Rattle.reg_engine.specs.declared.fault.CliFault.{CliFault}
 use Rattle.reg_engine.specs.declared.fault.CliFault.TheVariants as cli
 use Rattle.reg_engine.specs.Store.{Around, AreCut}
-use Rattle.reg_texts.specs.declared.against.Unread.{Unread}
-use Rattle.reg_texts.specs.declared.against.Unread.TheVariants as unread
+use Rattle.reg_texts.specs.declared.against.UnreadTexts.{UnreadTexts}
+use Rattle.reg_texts.specs.declared.against.UnreadTexts.TheVariants as unread
 use Rattle.reg_texts.specs.Given.{IsFileAgainst, IsFileAgainstWhereRead, IsFileUnread, IsTextOrNone, IsFirstLeft}
 use Rattle.reg_texts.specs.Gathered.{Each}
 use Rattle.reg_texts.specs.declared.engines.with.ComparedPart.{ComparedPart}
@@ -66,4 +66,4 @@ abbrev pub IsUncomparedInPart : Around → ℕ → List ℕ → SourceState → 
 IsUncomparedInPart a next name old new before after f = (a.none f × (new ≡ old) × (after ≡ before))
     ⊎ ((x : Content) × a.came x × ((IsUnread next old new f × (after ≡ before))
     ⊎ ((bytes : List ℕ) × Gives old new bytes × (((f ≡ cli.Memory) × (after ≡ before))
-    ⊎ ((text : List ℕ) × (first : Option Unread) × IsFileAgainstWhereRead name bytes x text first × AreCut text before after f)))))
+    ⊎ ((text : List ℕ) × (first : Option UnreadTexts) × IsFileAgainstWhereRead name bytes x text first × AreCut text before after f)))))

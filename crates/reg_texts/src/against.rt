@@ -23,7 +23,7 @@ use wkt_texts::{Cut, texts};
 
 /// Why the texts of a file are not compared.
 #[derive(Clone, Copy, Debug, PartialEq, Eq)]
-pub enum Unread {
+pub enum UnreadTexts {
     /// A text is not a definition, for this reason.
     Refused {
         fault: DefinitionFault,
@@ -45,15 +45,15 @@ pub fn compared_texts(
     register: &Register,
     name: &[u8],
     file: &[u8],
-) -> Result<Vec<u8>, Unread>
+) -> Result<Vec<u8>, UnreadTexts>
     ensures ok { IfOk result (λ text. IsFileAgainst name.now file.now register.now text.items) }
     ensures fault { IfErr result (IsFileUnread file.now) }
 {
     let Ok(index) = index_of_register(alloc, register) else {
-        return Err(Unread::Memory);
+        return Err(UnreadTexts::Memory);
     };
     let Ok(cuts) = texts(alloc, file) else {
-        return Err(Unread::Memory);
+        return Err(UnreadTexts::Memory);
     };
     match all_against(alloc, &index, name, &cuts) {
         Ok(text) => Ok(text),
@@ -65,7 +65,7 @@ pub fn compared_texts(
 #[derive(Drop)]
 pub struct WhereRead {
     pub text: Vec<u8>,
-    pub first: Option<Unread>,
+    pub first: Option<UnreadTexts>,
 }
 
 /// The same, where texts that are not definitions are passed over.
@@ -103,7 +103,7 @@ fn against_where_read(
 }
 
 // The first of two reasons, if there is one.
-fn earlier(first: Option<Unread>, next: Option<Unread>) -> Option<Unread>
+fn earlier(first: Option<UnreadTexts>, next: Option<UnreadTexts>) -> Option<UnreadTexts>
     ensures { result ≡ earlier first next }
 {
     match first {
@@ -119,12 +119,12 @@ fn push_where_read(
     index: &KeyIndex,
     name: &[u8],
     cut: &Cut<'_>,
-) -> Result<Option<Unread>, AllocError>
+) -> Result<Option<UnreadTexts>, AllocError>
     ensures { (rs : List OneRow) → IsIndex index.now rs → IfOk result (λ left. (mine : List ℕ) × IsTold name.now rs (piece_of cut.now) mine left × (text.new.items ≡ text.old.items ++ mine)) }
 {
     let mine = match text_against(alloc, index, name, cut) {
         Ok(mine) => mine,
-        Err(Unread::Memory) => return Err(AllocError),
+        Err(UnreadTexts::Memory) => return Err(AllocError),
         Err(why) => return Ok(Some(why)),
     };
     text.extend_from_slice(&mine)?;
@@ -137,7 +137,7 @@ fn all_against(
     index: &KeyIndex,
     name: &[u8],
     cuts: &[Cut<'_>],
-) -> Result<Vec<u8>, Unread>
+) -> Result<Vec<u8>, UnreadTexts>
     requires { (rs : List OneRow) × IsIndex index.now rs }
     ensures ok { (rs : List OneRow) → IsIndex index.now rs → IfOk result (λ text. Each (IsTextAgainst name.now rs) (map piece_of cuts.now) text.items) }
     ensures fault { IfErr result (IsFirstUnread (map piece_of cuts.now)) }
@@ -155,7 +155,7 @@ fn push_text(
     index: &KeyIndex,
     name: &[u8],
     cut: &Cut<'_>,
-) -> Result<(), Unread>
+) -> Result<(), UnreadTexts>
     ensures ok { (rs : List OneRow) → IsIndex index.now rs → OnOk result ((mine : List ℕ) × IsTextAgainst name.now rs (piece_of cut.now) mine × (text.new.items ≡ text.old.items ++ mine)) }
     ensures fault { IfErr result (IsUnread (piece_of cut.now)) }
 {
@@ -165,7 +165,7 @@ fn push_text(
     };
     match text.extend_from_slice(&mine) {
         Ok(()) => Ok(()),
-        Err(_) => Err(Unread::Memory),
+        Err(_) => Err(UnreadTexts::Memory),
     }
 }
 
@@ -174,7 +174,7 @@ fn text_against(
     index: &KeyIndex,
     name: &[u8],
     cut: &Cut<'_>,
-) -> Result<Vec<u8>, Unread>
+) -> Result<Vec<u8>, UnreadTexts>
     ensures ok { (rs : List OneRow) → IsIndex index.now rs → IfOk result (λ mine. IsTextAgainst name.now rs (piece_of cut.now) mine.items) }
     ensures fault { IfErr result (IsUnread (piece_of cut.now)) }
 {
@@ -184,30 +184,30 @@ fn text_against(
     };
     match given_against(alloc, index, name, cut.place, &definition) {
         Ok(text) => Ok(text),
-        Err(_) => Err(Unread::Memory),
+        Err(_) => Err(UnreadTexts::Memory),
     }
 }
 
-fn definition_at(alloc: Global, cut: &Cut<'_>) -> Result<Definition, Unread>
+fn definition_at(alloc: Global, cut: &Cut<'_>) -> Result<Definition, UnreadTexts>
     ensures ok { IfOk result (Defines cut.now.bytes.now) }
     ensures fault { IfErr result (IsUnread (piece_of cut.now)) }
 {
     match Definition::from_text(alloc, cut.bytes) {
         Ok(definition) => Ok(definition),
-        Err(DefinitionFault::Memory) => Err(Unread::Memory),
+        Err(DefinitionFault::Memory) => Err(UnreadTexts::Memory),
         Err(fault) => Err(refused(cut, fault)),
     }
 }
 
 // Why the text is refused.
-fn refused(cut: &Cut<'_>, fault: DefinitionFault) -> Unread
+fn refused(cut: &Cut<'_>, fault: DefinitionFault) -> UnreadTexts
     ensures { IsTextFault cut.now.bytes.now fault → fault ≢ NoMemory → IsUnread (piece_of cut.now) result }
 {
     // Places are smaller, since files are in memory.
     let Some(at) = cut.place.checked_add(fault.place().unwrap_or(0)) else {
-        return Unread::Memory;
+        return UnreadTexts::Memory;
     };
-    Unread::Refused {
+    UnreadTexts::Refused {
         fault,
         at,
         place: cut.place,

@@ -15,7 +15,7 @@ use std::alloc::{AllocError, Global};
 use wkt_crs::Definition;
 
 /// Which rows are compared.
-pub trait Choice {
+pub trait RowFilter {
     ghost use Rattle.std.specs.Prelude.{◌↔◌, IsTrue};
     ghost use Rattle.reg_op.specs.Rows.{Row as OneRow};
     ghost use Rattle.reg_report.specs.Seen.{row_seen};
@@ -33,7 +33,7 @@ pub struct OfWord<'a> {
     pub key: &'a [u8],
 }
 
-impl Choice for OfWord<'_> {
+impl RowFilter for OfWord<'_> {
     ghost use Rattle.reg_keys.specs.Named.{Answers};
 
     ghost wants = { λ c. λ r. Answers c.key.now r };
@@ -55,7 +55,7 @@ pub struct OfText<'a> {
     pub definition: &'a Definition,
 }
 
-impl Choice for OfText<'_> {
+impl RowFilter for OfText<'_> {
     ghost use Rattle.reg_texts.specs.Given.{IsRival};
 
     ghost wants = { λ c. λ r. IsRival c.definition.now r };
@@ -72,7 +72,7 @@ fn is_rival(row: &Row, definition: &Definition) -> bool
 }
 
 /// The rows that are compared, in order.
-pub fn chosen<'a, C: Choice>(
+pub fn chosen<'a, C: RowFilter>(
     alloc: Global,
     rows: &'a [Row],
     choice: &C,
@@ -88,7 +88,7 @@ pub fn chosen<'a, C: Choice>(
     Ok(found)
 }
 
-fn push_chosen<'a, C: Choice>(
+fn push_chosen<'a, C: RowFilter>(
     found: &mut Vec<&'a Row>,
     choice: &C,
     row: &'a Row,

@@ -59,7 +59,7 @@ fn area_in(usages: &[Usage]) -> &[u8]
 
 /// The numerals of a bounding box; empty texts without one.
 #[derive(Drop)]
-pub struct Sides {
+pub struct BoxNumerals {
     pub south: Vec<u8>,
     pub west: Vec<u8>,
     pub north: Vec<u8>,
@@ -74,10 +74,10 @@ fn numeral(alloc: Global, decimal: &Decimal) -> Result<Vec<u8>, AllocError>
     Ok(text)
 }
 
-fn no_sides(alloc: Global) -> Sides
+fn no_sides(alloc: Global) -> BoxNumerals
     ensures { side_texts result ≡ sides_of None }
 {
-    Sides {
+    BoxNumerals {
         south: Vec::new(alloc),
         west: Vec::new(alloc),
         north: Vec::new(alloc),
@@ -85,14 +85,14 @@ fn no_sides(alloc: Global) -> Sides
     }
 }
 
-fn sides_of_box(alloc: Global, found: &BoundingBox) -> Result<Sides, AllocError>
+fn sides_of_box(alloc: Global, found: &BoundingBox) -> Result<BoxNumerals, AllocError>
     ensures { IfOk result (λ sides. side_texts sides ≡ sides_of (Some found.now)) }
 {
     let south = numeral(alloc, &found.south)?;
     let west = numeral(alloc, &found.west)?;
     let north = numeral(alloc, &found.north)?;
     let east = numeral(alloc, &found.east)?;
-    Ok(Sides {
+    Ok(BoxNumerals {
         south,
         west,
         north,
@@ -100,7 +100,7 @@ fn sides_of_box(alloc: Global, found: &BoundingBox) -> Result<Sides, AllocError>
     })
 }
 
-fn sides_of(alloc: Global, found: &Option<BoundingBox>) -> Result<Sides, AllocError>
+fn sides_of(alloc: Global, found: &Option<BoundingBox>) -> Result<BoxNumerals, AllocError>
     ensures { IfOk result (λ sides. side_texts sides ≡ sides_of found.now) }
 {
     match found {
@@ -109,7 +109,7 @@ fn sides_of(alloc: Global, found: &Option<BoundingBox>) -> Result<Sides, AllocEr
     }
 }
 
-fn sides_in(alloc: Global, usages: &[Usage]) -> Result<Sides, AllocError>
+fn sides_in(alloc: Global, usages: &[Usage]) -> Result<BoxNumerals, AllocError>
     ensures { IfOk result (λ sides. side_texts sides ≡ sides_of (box_in usages.now)) }
 {
     let Some((first, _)) = usages.split_first() else {

@@ -17,7 +17,7 @@ mod saying;
 mod texts;
 mod version;
 
-pub use against::{Unread, WhereRead, compared_texts, compared_where_read};
+pub use against::{UnreadTexts, WhereRead, compared_texts, compared_where_read};
 pub use compare::{Uncompared, compared_key, compared_text, heading};
 pub use engines::{
     Compare, CompareKey, CompareTo, CompareWith, ComparedPart, Heading, Texts, WithFault,

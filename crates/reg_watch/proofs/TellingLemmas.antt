@@ -1,4 +1,4 @@
--- What is told of a change, from what was noted of it.
+-- What is reported of a change, from what was noted of it.
 use Rattle.std.proofs.Common.{◌≡◌, inl, inr, ◌∙◌, List, ℕ, Option, None, Result, Ok}
 use Rattle.byte_io.specs.Device.{SinkState}
 use Rattle.reg_op.specs.Contents.{Content}

@@ -1,4 +1,4 @@
--- What is noted of a command: the register that came, and the one that is kept; and what is told of them.
+-- What is noted of a command: the register that came, and the one that is kept; and what is reported of them.
 use Rattle.std.specs.Prelude.{◌≡◌, Option, Some, None, Result, Ok, Err, IfOk}
 use Rattle.reg_op.specs.Contents.{Content}
 use Rattle.reg_engine.specs.Store.{Around}
@@ -20,7 +20,7 @@ noting a before loaded kept = record {
   unleft = λ x y f. a.unleft x y f × IsNoted x loaded × (kept ≡ before);
 }
 
--- ---- what is told at the end
+-- ---- what is reported at the end
 
 -- what the second register has and the first one has not, unless memory ran out
 abbrev pub Tells : {E : Type 0} → Content → Content → Result (Option News) E → Type 0
@@ -28,7 +28,7 @@ Tells x y (Ok None) = ⊥
 Tells x y (Ok (Some n)) = IsNews x y n
 Tells x y (Err e) = Unit {0}
 
--- the events at a store with what is told of them: of a register that is kept, what is new in it; nothing otherwise
+-- the events at a store with what is reported of them: of a register that is kept, what is new in it; nothing otherwise
 abbrev pub telling : {E : Type 0} → Around → Result (Option News) E → Around
 telling a news = record {
   came = λ x. a.came x × (news ≡ Ok None);

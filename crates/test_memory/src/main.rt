@@ -8,7 +8,7 @@ mod registers;
 mod shelves;
 mod texts;
 
-use outcome::Outcome;
+use outcome::TestOutcome;
 use std::process::ExitCode;
 use std::{env, io};
 
@@ -20,7 +20,7 @@ fn main(rt: HostRuntime) -> ExitCode {
 }
 
 /// The outcome of the call. It is an error if memory fails before the objects are made.
-fn perform(rt: &HostRuntime) -> io::Result<Outcome> {
+fn perform(rt: &HostRuntime) -> io::Result<TestOutcome> {
     let words: Vec<String> = env::args(rt)?.collect(rt.alloc())?;
     match word(&words, 1) {
         "read" => texts::read(rt, &words),
@@ -36,7 +36,7 @@ fn perform(rt: &HostRuntime) -> io::Result<Outcome> {
         "merge" => registers::merge(rt, &words),
         "keep" => shelves::keep(rt, &words),
         "restore" => shelves::restore(rt, &words),
-        _ => Ok(Outcome::Wrong),
+        _ => Ok(TestOutcome::Wrong),
     }
 }
 

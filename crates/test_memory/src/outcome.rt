@@ -5,7 +5,7 @@ use std::process::ExitCode;
 
 /// The outcome of a call.
 #[derive(Drop)]
-pub enum Outcome {
+pub enum TestOutcome {
     Done,
     /// Out of memory; the object of the call is unchanged.
     Memory,
@@ -17,33 +17,33 @@ pub enum Outcome {
     Wrong,
 }
 
-impl Outcome {
+impl TestOutcome {
     /// The outcome of a call without an object that it could change.
-    pub fn of(is_done: bool) -> Outcome {
+    pub fn of(is_done: bool) -> TestOutcome {
         if is_done {
-            Outcome::Done
+            TestOutcome::Done
         } else {
-            Outcome::Memory
+            TestOutcome::Memory
         }
     }
 
     /// The outcome of a call whose memory failed, which must not have changed its object.
-    pub fn left(is_left: bool) -> Outcome {
+    pub fn left(is_left: bool) -> TestOutcome {
         if is_left {
-            Outcome::Memory
+            TestOutcome::Memory
         } else {
-            Outcome::Wrong
+            TestOutcome::Wrong
         }
     }
 
     /// Prints it, and returns the program's status: 0 done, 1 refused, 3 wrong, 4 out of memory.
     pub fn print(&self, rt: &HostRuntime) -> ExitCode {
         let (said, status) = match self {
-            Outcome::Done => (println!(rt; "done"), 0),
-            Outcome::Memory => (println!(rt; "out of memory"), 4),
-            Outcome::Fault(name, place) => (println!(rt; "{name} at {place}"), 1),
-            Outcome::Refused(name, id) => (println!(rt; "{name} {}", id.count()), 1),
-            Outcome::Wrong => (println!(rt; "wrong"), 3),
+            TestOutcome::Done => (println!(rt; "done"), 0),
+            TestOutcome::Memory => (println!(rt; "out of memory"), 4),
+            TestOutcome::Fault(name, place) => (println!(rt; "{name} at {place}"), 1),
+            TestOutcome::Refused(name, id) => (println!(rt; "{name} {}", id.count()), 1),
+            TestOutcome::Wrong => (println!(rt; "wrong"), 3),
         };
         match said {
             Ok(()) => ExitCode::from(status),

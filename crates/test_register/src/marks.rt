@@ -2,7 +2,7 @@
 
 use reg_join::{Join, join_all};
 use reg_op::OpId;
-use reg_state::{Mark, Marks, Target};
+use reg_state::{Mark, MarkTarget, Marks};
 use std::alloc::Global;
 use std::process::Abort;
 
@@ -10,7 +10,7 @@ fn id_of(rt: &impl Abort, text: &[u8]) -> OpId {
     OpId::parse(text).expect(rt, "an id")
 }
 
-fn mark(target: Target, id: OpId) -> Mark {
+fn mark(target: MarkTarget, id: OpId) -> Mark {
     Mark { target, id }
 }
 
@@ -31,9 +31,9 @@ fn the_least_of_each_target_is_kept(rt: HostRuntime) {
     let newer = id_of(&rt, b"00000000-0000-4000-8000-00000000000a:2");
     let sooner = id_of(&rt, b"00000000-0000-4000-8000-00000000000b:1");
     let later = id_of(&rt, b"00000000-0000-4000-8000-00000000000c:1");
-    let retired = Target { entry, by: None };
+    let retired = MarkTarget { entry, by: None };
     let by = Some(newer);
-    let replaced = Target { entry, by };
+    let replaced = MarkTarget { entry, by };
     let one = marks_of(&rt, alloc, &[mark(retired, later)]);
     let other = marks_of(&rt, alloc, &[mark(retired, later), mark(retired, sooner)]);
     let third = marks_of(&rt, alloc, &[mark(replaced, later)]);
@@ -56,20 +56,20 @@ fn one_more_mark_takes_the_place_of_those_that_it_makes_needless(rt: HostRuntime
     let last = id_of(&rt, b"00000000-0000-4000-8000-00000000000a:3");
     let sooner = id_of(&rt, b"00000000-0000-4000-8000-00000000000b:1");
     let later = id_of(&rt, b"00000000-0000-4000-8000-00000000000c:1");
-    let retired = Target { entry, by: None };
-    let by_first = Target {
+    let retired = MarkTarget { entry, by: None };
+    let by_first = MarkTarget {
         entry,
         by: Some(first),
     };
-    let by_last = Target {
+    let by_last = MarkTarget {
         entry,
         by: Some(last),
     };
-    let before = Target {
+    let before = MarkTarget {
         entry: first,
         by: Some(last),
     };
-    let after = Target {
+    let after = MarkTarget {
         entry: last,
         by: None,
     };

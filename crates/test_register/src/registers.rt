@@ -32,7 +32,7 @@ pub const SAME_KEY: &[u8] =
 
 /// A value could not be made.
 #[derive(Debug, Drop)]
-pub struct Refused;
+pub struct SampleFault;
 
 // Tests use `expect` for what they set up, and not `?`: a refusal would drop all values that the test holds, and the
 // proof would go through these for each refusal.
@@ -106,22 +106,22 @@ pub fn supersede(id: OpId, old: OpId, newer: OpId) -> Step {
     }
 }
 
-fn body_of(alloc: Global, step: Step) -> Result<OpBody, Refused> {
+fn body_of(alloc: Global, step: Step) -> Result<OpBody, SampleFault> {
     let Step { entry, newer, .. } = step;
     match step.effect {
         Effect::Enter => match Definition::from_canonical(alloc, text_of(step.sample)) {
             Ok(definition) => Ok(OpBody::Enter(definition)),
-            Err(_) => Err(Refused),
+            Err(_) => Err(SampleFault),
         },
         Effect::Retire => Ok(OpBody::Retire { entry }),
         Effect::Supersede => Ok(OpBody::Supersede { old: entry, newer }),
     }
 }
 
-pub fn made(alloc: Global, step: Step) -> Result<Op, Refused> {
+pub fn made(alloc: Global, step: Step) -> Result<Op, SampleFault> {
     match Op::new(step.id, body_of(alloc, step)?, Note::empty()) {
         Ok(op) => Ok(op),
-        Err(_) => Err(Refused),
+        Err(_) => Err(SampleFault),
     }
 }
 
@@ -136,14 +136,14 @@ pub fn worked(rt: &impl Abort, k: usize) -> Step {
     }
 }
 
-pub fn take(alloc: Global, register: &mut Register, step: Step) -> Result<(), Refused> {
+pub fn take(alloc: Global, register: &mut Register, step: Step) -> Result<(), SampleFault> {
     match register.take(made(alloc, step)?) {
         Ok(()) => Ok(()),
-        Err(_) => Err(Refused),
+        Err(_) => Err(SampleFault),
     }
 }
 
-pub fn taken(alloc: Global, steps: &[Step]) -> Result<Register, Refused> {
+pub fn taken(alloc: Global, steps: &[Step]) -> Result<Register, SampleFault> {
     let mut register = Register::new(alloc);
     for step in steps {
         take(alloc, &mut register, *step)?;

@@ -7,7 +7,7 @@ use crate::set::is_hidden_code;
 
 /// A hidden character in some bytes.
 #[derive(Clone, Copy, Debug, PartialEq, Eq)]
-pub struct Hidden {
+pub struct HiddenCharacter {
     /// Its code.
     pub number: u32,
     /// The number of bytes after its first one.
@@ -22,17 +22,17 @@ fn continues(byte: u8) -> bool
 }
 
 // The character with this code, if it is hidden.
-fn hidden_if(code: u32, more: usize) -> Option<Hidden>
+fn hidden_if(code: u32, more: usize) -> Option<HiddenCharacter>
     ensures { result ≡ hidden_if code more }
 {
     if is_hidden_code(code) {
-        return Some(Hidden { number: code, more });
+        return Some(HiddenCharacter { number: code, more });
     }
     None
 }
 
 // The same, if it is at least the first one of so many bytes.
-fn hidden_from(first: u32, code: u32, more: usize) -> Option<Hidden>
+fn hidden_from(first: u32, code: u32, more: usize) -> Option<HiddenCharacter>
     ensures { result ≡ hidden_from first code more }
 {
     if first <= code {
@@ -42,7 +42,7 @@ fn hidden_from(first: u32, code: u32, more: usize) -> Option<Hidden>
 }
 
 // Of two bytes: this one, and the first of the others.
-fn hidden_of_two(byte: u8, rest: &[u8]) -> Option<Hidden>
+fn hidden_of_two(byte: u8, rest: &[u8]) -> Option<HiddenCharacter>
     ensures { result ≡ hidden_of_two byte rest.now }
 {
     let Some((second, _)) = rest.split_first() else {
@@ -56,7 +56,7 @@ fn hidden_of_two(byte: u8, rest: &[u8]) -> Option<Hidden>
 }
 
 // Of three bytes: this one, and the first two of the others.
-fn hidden_of_three(byte: u8, rest: &[u8]) -> Option<Hidden>
+fn hidden_of_three(byte: u8, rest: &[u8]) -> Option<HiddenCharacter>
     ensures { result ≡ hidden_of_three byte rest.now }
 {
     let Some((second, others)) = rest.split_first() else {
@@ -73,7 +73,7 @@ fn hidden_of_three(byte: u8, rest: &[u8]) -> Option<Hidden>
 }
 
 /// The character with which a text in UTF-8 begins, if it is hidden: `byte` is the first byte of the text, and `rest` has the others.
-pub fn hidden_at(byte: u8, rest: &[u8]) -> Option<Hidden>
+pub fn hidden_at(byte: u8, rest: &[u8]) -> Option<HiddenCharacter>
     ensures { result ≡ hidden_at byte rest.now }
 {
     if byte < 128 {

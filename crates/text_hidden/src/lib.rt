@@ -5,5 +5,5 @@ mod bytes;
 pub mod laws;
 mod set;
 
-pub use bytes::{Hidden, hidden_at};
+pub use bytes::{HiddenCharacter, hidden_at};
 pub use set::{is_hidden, is_hidden_code};

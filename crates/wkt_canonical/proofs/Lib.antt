@@ -7,4 +7,5 @@ pub mod Runs
 pub mod Spelled
 pub mod Texts
 pub mod Ascii
+pub mod DigitRuns
 pub mod Wholes

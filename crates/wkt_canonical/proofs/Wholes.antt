@@ -29,7 +29,7 @@ use Rattle.wkt_grammar.specs.Denotes.{base_keyword, geodetic_keyword}
 use Rattle.wkt_grammar.specs.Runs.{listed}
 use Rattle.wkt_grammar.specs.Trees.{maybe, named_tree, text_tree, ident_tree, value_tree, usage_tree, angle_unit_tree, geodetic_frame_tree, vertical_frame_tree, prime_meridian_tree, conversion_tree, base_tree, single_tree}
 use Rattle.wkt_canonical.specs.declared.identifiers.Identifier.{Identifier}
-use Rattle.wkt_canonical.specs.declared.crs.Seen.{Seen}
+use Rattle.wkt_canonical.specs.declared.crs.SeenSystem.{SeenSystem}
 use Rattle.wkt_canonical.specs.declared.crs.Component.{Component}
 use Rattle.wkt_canonical.specs.Reads.{ReadsFirst, ReadsOne, ReadsMaybe, ReadsEach, ReadsInside, ReadsText, ReadsIdentifiers, ReadsSystem, ReadsAxes, ReadsSingle, ReadsEnd, ReadsWhole, IsCanonicalOf, IsCanonical, any, beginning, opening}
 use Rattle.wkt_canonical.specs.Tests.{all_positive, angle_unit_passes, usage_passes, frame_passes, prime_meridian_passes, conversion_passes, base_passes, AxesHold, Holds}
@@ -171,7 +171,7 @@ compound_conditions v a b f s u Whole C6 = rw f s
 compound_conditions v a b f s u Whole C7 = u
 compound_conditions v a b f s u Whole C8 = refl
 
-pub compound : {content text a b c d e rest : List ℕ} {first second : Component} (seen : Seen) → seen.name.now ≡ content → ReadsText content text a → a ≡ 44 ∷ b → ReadsSingle first b c → c ≡ 44 ∷ d → ReadsSingle second d e → first.may_be_first ≡ true → second.may_be_second ≡ true → ReadsEnd seen.identifier e rest → ReadsWhole seen (beginning keywords.CompoundCrs ++ text) rest
+pub compound : {content text a b c d e rest : List ℕ} {first second : Component} (seen : SeenSystem) → seen.name.now ≡ content → ReadsText content text a → a ≡ 44 ∷ b → ReadsSingle first b c → c ≡ 44 ∷ d → ReadsSingle second d e → first.may_be_first ≡ true → second.may_be_second ≡ true → ReadsEnd seen.identifier e rest → ReadsWhole seen (beginning keywords.CompoundCrs ++ text) rest
 compound seen same name comma first comma' second f s end =
     let v : Compound = record { name = name.value; first = first.value; second = second.value; usages = end.usages; ids = end.ids; remark = end.remark } in
     record {
@@ -184,13 +184,13 @@ compound seen same name comma first comma' second f s end =
 pub whole_of_single : {component : Component} {text rest : List ℕ} → ReadsSingle component text rest → ReadsWhole component.seen text rest
 whole_of_single r = record { value = parts.Single r.value; conditions = single_conditions r.value r.holds; seen_of = r.seen; is = r.is }
 
-pub whole_of_compound : {seen : Seen} {text inside rest : List ℕ} → text ≡ beginning keywords.CompoundCrs ++ inside → ReadsWhole seen (beginning keywords.CompoundCrs ++ inside) rest → ReadsWhole seen text rest
+pub whole_of_compound : {seen : SeenSystem} {text inside rest : List ℕ} → text ≡ beginning keywords.CompoundCrs ++ inside → ReadsWhole seen (beginning keywords.CompoundCrs ++ inside) rest → ReadsWhole seen text rest
 whole_of_compound {seen} {rest = rest} e r = subst (λ t. ReadsWhole seen t rest) (sym e) r
 
-pub all_of_it : {seen : Seen} {text rest : List ℕ} → ReadsWhole seen text rest → rest ≡ [] → IsCanonicalOf seen text
+pub all_of_it : {seen : SeenSystem} {text rest : List ℕ} → ReadsWhole seen text rest → rest ≡ [] → IsCanonicalOf seen text
 all_of_it r e = record { value = r.value; conditions = r.conditions; seen_of = r.seen_of; is = r.is ∙ (ap (λ l. canon r.value ++ l) e ∙ append-nil (canon r.value)) }
 
-pub is_canonical : (found : Option Seen) (text : List ℕ) → IfSome found (λ seen. IsCanonicalOf seen text) → is_some found ≡ true → IsCanonical text
+pub is_canonical : (found : Option SeenSystem) (text : List ℕ) → IfSome found (λ seen. IsCanonicalOf seen text) → is_some found ≡ true → IsCanonical text
 is_canonical (Some seen) text r h = record { value = r.value; conditions = r.conditions; is = r.is }
 is_canonical None text r h = absurd (cc)
 

@@ -29,7 +29,7 @@ use Rattle.wkt_grammar.specs.Canon.{canon}
 use Rattle.crs_part.specs.declared.units.Unit.{Unit}
 use Rattle.crs_value.specs.declared.kinds.UnitKind.{UnitKind}
 use Rattle.wkt_canonical.specs.declared.identifiers.Identifier.{Identifier}
-use Rattle.wkt_canonical.specs.declared.crs.Seen.{Seen}
+use Rattle.wkt_canonical.specs.declared.crs.SeenSystem.{SeenSystem}
 use Rattle.wkt_canonical.specs.declared.crs.Component.{Component}
 use Rattle.wkt_canonical.specs.Seen.{Identifies, IsFirst, IsSeen}
 use Rattle.wkt_canonical.specs.Tests.{all_positive, unit_passes, meridian_passes, IsAxis, AxesHold, Holds}
@@ -214,14 +214,14 @@ pub record ReadsEnd (first : Option Identifier) (text rest : List ℕ) : Type 0 
   pub is : text ≡ behind (joined (map usage_tree usages ∷ map ident_tree ids ∷ maybe (value_tree keywords.Remark) remark ∷ [])) ++ 93 ∷ rest
 
 -- the parts of a reference system, which meet all conditions
-pub record ReadsWhole (seen : Seen) (text rest : List ℕ) : Type 0 where
+pub record ReadsWhole (seen : SeenSystem) (text rest : List ℕ) : Type 0 where
   pub value : CrsParts
   pub conditions : HasConditions value
   pub seen_of : IsSeen seen value
   pub is : text ≡ canon value ++ rest
 
 -- the text is the canonical text of parts that meet all conditions, and these are their name and identifier
-pub record IsCanonicalOf (seen : Seen) (text : List ℕ) : Type 0 where
+pub record IsCanonicalOf (seen : SeenSystem) (text : List ℕ) : Type 0 where
   pub value : CrsParts
   pub conditions : HasConditions value
   pub seen_of : IsSeen seen value

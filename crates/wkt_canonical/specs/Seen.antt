@@ -5,7 +5,7 @@ use Rattle.crs_part.specs.declared.identifiers.Ident.{Ident}
 use Rattle.crs_part.specs.declared.crs.CrsParts.{CrsParts}
 use Rattle.crs_value.specs.Keys.{text_of}
 use Rattle.wkt_canonical.specs.declared.identifiers.Identifier.{Identifier}
-use Rattle.wkt_canonical.specs.declared.crs.Seen.{Seen}
+use Rattle.wkt_canonical.specs.declared.crs.SeenSystem.{SeenSystem}
 
 -- the identifier has this authority and this code, where a number counts as its canonical text
 pub record Identifies (seen : Identifier) (id : Ident) : Type 0 where
@@ -18,6 +18,6 @@ IsFirst [] seen = seen ≡ None
 IsFirst (id ∷ others) seen = IsSomeAnd seen (λ first. Identifies first id)
 
 -- the reference system has this name and this first identifier
-pub record IsSeen (seen : Seen) (value : CrsParts) : Type 0 where
+pub record IsSeen (seen : SeenSystem) (value : CrsParts) : Type 0 where
   pub name : (name_of value).bytes ≡ seen.name.now
   pub identifier : IsFirst (ids_of value) seen.identifier

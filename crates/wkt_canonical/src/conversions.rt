@@ -6,13 +6,13 @@ ghost use Rattle.wkt_canonical.specs.Tests.{parameter_passes, conversion_passes}
 use crate::front::behind;
 use crate::identifiers::method;
 use crate::leaves::text;
-use crate::node::{Node, each};
+use crate::node::{CanonicalNode, each};
 use crate::numerals::number_behind_comma;
 use crate::units::maybe_unit;
 use crs_part::{Conversion, Ident, Parameter};
 use wkt_grammar::Keyword;
 
-impl Node for Parameter {
+impl CanonicalNode for Parameter {
     ghost tree = { parameter_tree };
 
     ghost test = { parameter_passes };
@@ -33,7 +33,7 @@ impl Node for Parameter {
     }
 }
 
-impl Node for Conversion {
+impl CanonicalNode for Conversion {
     ghost tree = { conversion_tree };
 
     ghost test = { conversion_passes };

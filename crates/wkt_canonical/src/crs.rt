@@ -23,7 +23,7 @@ use wkt_grammar::Keyword;
 
 /// The name of a reference system, without its marks, and its first identifier.
 #[derive(Clone, Copy)]
-pub struct Seen<'a> {
+pub struct SeenSystem<'a> {
     pub name: &'a [u8],
     pub identifier: Option<Identifier<'a>>,
 }
@@ -31,13 +31,13 @@ pub struct Seen<'a> {
 /// The findings for a reference system of one part.
 #[derive(Clone, Copy)]
 struct Component<'a> {
-    seen: Seen<'a>,
+    seen: SeenSystem<'a>,
     may_be_first: bool,
     may_be_second: bool,
 }
 
 /// The findings for a reference system that meets all conditions, and the rest after its canonical text.
-pub(crate) fn whole(bytes: &[u8]) -> Option<(Seen<'_>, &[u8])>
+pub(crate) fn whole(bytes: &[u8]) -> Option<(SeenSystem<'_>, &[u8])>
     ensures { IfSome result (λ found. ReadsWhole found.0 bytes.now found.1.now) }
 {
     if let Some(inside) = begins(bytes, Keyword::CompoundCrs) {
@@ -49,7 +49,7 @@ pub(crate) fn whole(bytes: &[u8]) -> Option<(Seen<'_>, &[u8])>
 }
 
 /// The findings for a compound reference system, and the rest after it, read from after its opening delimiter.
-fn compound(bytes: &[u8]) -> Option<(Seen<'_>, &[u8])>
+fn compound(bytes: &[u8]) -> Option<(SeenSystem<'_>, &[u8])>
     ensures { IfSome result (λ found. ReadsWhole found.0 (beginning keywords.CompoundCrs ++ bytes.now) found.1.now) }
 {
     let (name, rest) = content(bytes)?;
@@ -64,7 +64,7 @@ fn compound(bytes: &[u8]) -> Option<(Seen<'_>, &[u8])>
         return None;
     }
     let (identifier, rest) = end(rest)?;
-    Some((Seen { name, identifier }, rest))
+    Some((SeenSystem { name, identifier }, rest))
 }
 
 /// The findings for a reference system of one part, and the rest after it.
@@ -113,7 +113,7 @@ fn geodetic(kind: GeodeticKind, bytes: &[u8]) -> Option<(Component<'_>, &[u8])>
     let rest = axes(system, dimension, rest)?;
     let (identifier, rest) = end(rest)?;
     let component = Component {
-        seen: Seen { name, identifier },
+        seen: SeenSystem { name, identifier },
         may_be_first: is_ellipsoidal_plane(system, dimension),
         may_be_second: false,
     };
@@ -160,7 +160,7 @@ fn projected(bytes: &[u8]) -> Option<(Component<'_>, &[u8])>
     let rest = axes(system, dimension, rest)?;
     let (identifier, rest) = end(rest)?;
     let component = Component {
-        seen: Seen { name, identifier },
+        seen: SeenSystem { name, identifier },
         may_be_first: is_cartesian_plane(system, dimension),
         may_be_second: false,
     };
@@ -181,7 +181,7 @@ fn vertical(bytes: &[u8]) -> Option<(Component<'_>, &[u8])>
     let rest = geoid_models(rest)?;
     let (identifier, rest) = end(rest)?;
     let component = Component {
-        seen: Seen { name, identifier },
+        seen: SeenSystem { name, identifier },
         may_be_first: false,
         may_be_second: true,
     };

@@ -8,7 +8,7 @@ ghost use Rattle.wkt_canonical.specs.Tests.{ellipsoid_passes, datum_passes, ense
 
 use crate::front::{behind, opens};
 use crate::leaves::text;
-use crate::node::{Node, each, one, some};
+use crate::node::{CanonicalNode, each, one, some};
 use crate::numerals::{
     number, number_behind_comma, positive_number_behind_comma, unsigned_number_behind_comma,
 };
@@ -17,7 +17,7 @@ use crate::values::maybe_value;
 use crs_part::{Ellipsoid, Ident, Named, PrimeMeridian};
 use wkt_grammar::Keyword;
 
-impl Node for Ellipsoid {
+impl CanonicalNode for Ellipsoid {
     ghost tree = { ellipsoid_tree };
 
     ghost test = { ellipsoid_passes };
@@ -39,7 +39,7 @@ impl Node for Ellipsoid {
     }
 }
 
-impl Node for PrimeMeridian {
+impl CanonicalNode for PrimeMeridian {
     ghost tree = { prime_meridian_tree };
 
     ghost test = { prime_meridian_passes };

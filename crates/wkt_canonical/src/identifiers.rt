@@ -7,7 +7,7 @@ ghost use Rattle.wkt_canonical.specs.Reads.{ReadsEach, ReadsMaybe, ReadsOne, Rea
 
 use crate::front::{behind, opens};
 use crate::leaves::{code, code_behind_comma, content, text};
-use crate::node::{Node, each};
+use crate::node::{CanonicalNode, each};
 use crate::values::maybe_value;
 use crs_part::{Ident, Named};
 use wkt_grammar::Keyword;
@@ -25,6 +25,10 @@ fn one_identifier(bytes: &[u8]) -> Option<(Identifier<'_>, &[u8])>
 {
     let (authority, rest) = content(bytes)?;
     let (code, rest) = code(rest)?;
+    // Most identifiers have no more.
+    if let Some(rest) = behind(rest, b"]") {
+        return Some((Identifier { authority, code }, rest));
+    }
     let rest = version(rest);
     let rest = maybe_value(Keyword::Citation, rest)?;
     let rest = maybe_value(Keyword::Uri, rest)?;
@@ -44,7 +48,7 @@ pub(crate) fn identifiers(bytes: &[u8]) -> Option<(Option<Identifier<'_>>, &[u8]
     Some((Some(first), rest))
 }
 
-impl Node for Ident {
+impl CanonicalNode for Ident {
     ghost tree = { ident_tree };
 
     ghost test = { any };
@@ -82,7 +86,7 @@ fn named(bytes: &[u8]) -> Option<&[u8]>
 }
 
 /// A member of an ensemble.
-impl Node for Named {
+impl CanonicalNode for Named {
     ghost tree = { named_tree keywords.Member };
 
     ghost test = { any };

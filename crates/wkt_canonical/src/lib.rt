@@ -5,6 +5,8 @@ mod canonical;
 mod conversions;
 mod crs;
 mod datums;
+mod digits;
+mod ends;
 mod front;
 mod identifiers;
 mod leaves;
@@ -17,5 +19,5 @@ mod values;
 mod words;
 
 pub use canonical::{is_canonical, recognize};
-pub use crs::Seen;
+pub use crs::SeenSystem;
 pub use identifiers::Identifier;

@@ -9,7 +9,7 @@ use crate::front::opens;
 use wkt_grammar::Keyword;
 
 /// A value whose text is a node with one keyword.
-pub(crate) trait Node {
+pub(crate) trait CanonicalNode {
     ghost tree: { Self → Bare };
 
     ghost test: { Self → Bool };
@@ -26,7 +26,7 @@ pub(crate) trait Node {
 }
 
 /// The rest after a required node.
-pub(crate) fn one<T: Node>(text: &[u8]) -> Option<&[u8]>
+pub(crate) fn one<T: CanonicalNode>(text: &[u8]) -> Option<&[u8]>
     ensures { IfSome result (λ rest. ReadsOne T.test T.tree text.now rest.now) }
 {
     let inside = opens(text, T::keyword())?;
@@ -35,7 +35,7 @@ pub(crate) fn one<T: Node>(text: &[u8]) -> Option<&[u8]>
 }
 
 /// The rest after an optional node.
-pub(crate) fn maybe<T: Node>(text: &[u8]) -> Option<&[u8]>
+pub(crate) fn maybe<T: CanonicalNode>(text: &[u8]) -> Option<&[u8]>
     ensures { IfSome result (λ rest. ReadsMaybe T.test T.tree text.now rest.now) }
 {
     let Some(inside) = opens(text, T::keyword()) else {
@@ -46,7 +46,7 @@ pub(crate) fn maybe<T: Node>(text: &[u8]) -> Option<&[u8]>
 }
 
 /// The rest after the next nodes of this kind.
-pub(crate) fn each<T: Node>(text: &[u8]) -> Option<&[u8]>
+pub(crate) fn each<T: CanonicalNode>(text: &[u8]) -> Option<&[u8]>
     ensures { IfSome result (λ rest. ReadsEach T.test T.tree text.now rest.now) }
 {
     let mut rest = text;
@@ -60,7 +60,7 @@ pub(crate) fn each<T: Node>(text: &[u8]) -> Option<&[u8]>
 }
 
 /// The rest after the next nodes of this kind, at least one.
-pub(crate) fn some<T: Node>(text: &[u8]) -> Option<&[u8]>
+pub(crate) fn some<T: CanonicalNode>(text: &[u8]) -> Option<&[u8]>
     ensures { IfSome result (λ rest. ReadsSome T.test T.tree text.now rest.now) }
 {
     let rest = one::<T>(text)?;

@@ -1,13 +1,12 @@
 //! Numbers in canonical form.
 
 ghost use Rattle.std.specs.Prelude.{◌≡◌, ◌≢◌, ◌∷◌, IfSome, get_or};
-ghost use Rattle.std.specs.Char.{is_ascii_digit};
-ghost use Rattle.std.specs.List.{prefix_len};
 ghost use Rattle.wkt_grammar.specs.Trees.{number_tree};
 ghost use Rattle.crs_number.specs.Reading.{CutsDigits};
 ghost use Rattle.wkt_canonical.specs.Reads.{ReadsFirst, ReadsOne, any, is_above_zero, is_not_below_zero};
 ghost use Rattle.wkt_canonical.specs.Digits.{ReadsFraction};
 
+use crate::digits::leading_digits;
 use crate::front::behind;
 
 /// The longest whole part that is read.
@@ -15,13 +14,6 @@ const MAX_WHOLE: usize = 16;
 
 /// The most digits after a period that are read.
 const MAX_PLACES: usize = 18;
-
-/// The number of leading digits.
-fn leading_digits(bytes: &[u8]) -> usize
-    ensures { result ≡ prefix_len is_ascii_digit bytes.now }
-{
-    bytes.iter().take_while(|b| b.is_ascii_digit()).count()
-}
 
 /// The longest run of digits, and the rest.
 fn split_digits(bytes: &[u8]) -> (&[u8], &[u8])

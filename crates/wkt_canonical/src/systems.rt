@@ -8,7 +8,7 @@ ghost use Rattle.wkt_canonical.specs.Tests.{meridian_passes, FitsEach};
 
 use crate::front::{behind, opens};
 use crate::leaves::text;
-use crate::node::{Node, each, one};
+use crate::node::{CanonicalNode, each, one};
 use crate::numerals::number;
 use crate::units::{angle_unit, unit};
 use crate::words::{digit, direction, kind};
@@ -29,7 +29,7 @@ pub(crate) fn system(bytes: &[u8]) -> Option<(SystemKind, u32, &[u8])>
     Some((kind, dimension, rest))
 }
 
-impl Node for Meridian {
+impl CanonicalNode for Meridian {
     ghost tree = { meridian_tree };
 
     ghost test = { meridian_passes };

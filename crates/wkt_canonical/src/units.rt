@@ -20,6 +20,10 @@ fn definition(bytes: &[u8]) -> Option<&[u8]>
 {
     let rest = text(bytes)?;
     let rest = positive_number_behind_comma(rest)?;
+    // Most units have no identifier.
+    if let Some(rest) = behind(rest, b"]") {
+        return Some(rest);
+    }
     let rest = each::<Ident>(rest)?;
     let rest = behind(rest, b"]")?;
     Some(rest)

@@ -5,14 +5,14 @@ ghost use Rattle.wkt_canonical.specs.Reads.{any};
 ghost use Rattle.wkt_canonical.specs.Tests.{extent_passes, usage_passes};
 
 use crate::front::{begins, behind};
-use crate::node::{Node, maybe};
+use crate::node::{CanonicalNode, maybe};
 use crate::numerals::{number, number_behind_comma};
 use crate::units::maybe_length_unit;
 use crate::values::{maybe_value, value};
 use crs_part::{BoundingBox, Usage, VerticalExtent};
 use wkt_grammar::Keyword;
 
-impl Node for BoundingBox {
+impl CanonicalNode for BoundingBox {
     ghost tree = { bounding_box_tree };
 
     ghost test = { any };
@@ -33,7 +33,7 @@ impl Node for BoundingBox {
     }
 }
 
-impl Node for VerticalExtent {
+impl CanonicalNode for VerticalExtent {
     ghost tree = { vertical_extent_tree };
 
     ghost test = { extent_passes };
@@ -53,7 +53,7 @@ impl Node for VerticalExtent {
     }
 }
 
-impl Node for Usage {
+impl CanonicalNode for Usage {
     ghost tree = { usage_tree };
 
     ghost test = { usage_passes };

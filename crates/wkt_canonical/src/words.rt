@@ -28,11 +28,30 @@ pub(crate) fn kind(bytes: &[u8]) -> Option<(SystemKind, &[u8])>
     Some((kind, rest))
 }
 
+/// A direction that many axes have, if this is its word.
+fn usual_direction(word: &[u8]) -> Option<Direction>
+    ensures { IfSome result (λ direction. word.now ≡ direction_word direction) }
+{
+    if word == Direction::East.word() {
+        return Some(Direction::East);
+    }
+    if word == Direction::North.word() {
+        return Some(Direction::North);
+    }
+    if word == Direction::Up.word() {
+        return Some(Direction::Up);
+    }
+    None
+}
+
 /// A direction, and the rest after it.
 pub(crate) fn direction(bytes: &[u8]) -> Option<(Direction, &[u8])>
     ensures { IfSome result (λ found. bytes.now ≡ direction_word found.0 ++ found.1.now) }
 {
     let (word, rest) = letters(bytes)?;
+    if let Some(direction) = usual_direction(word) {
+        return Some((direction, rest));
+    }
     let direction = Direction::of_word(word)?;
     if direction.word() != word {
         return None;

@@ -2,7 +2,7 @@
 use Rattle.std.proofs.Common.{◌≡◌, ◌≤◌, ℕ, List, length, refl, sym, ap, ◌∙◌, subst, inl, inr}
 use Rattle.std.specs.Prelude.{◌⊎◌, Result, Ok, Err, IfOk, IfErr}
 use Rattle.crs_value.specs.declared.crs.Crs.{Crs}
-use Rattle.wkt_canonical.specs.declared.crs.Seen.{Seen}
+use Rattle.wkt_canonical.specs.declared.crs.SeenSystem.{SeenSystem}
 use Rattle.wkt_canonical.specs.Reads.{IsCanonicalOf}
 use Rattle.wkt_crs.specs.declared.fault.ReadFault.TheVariants as read
 use Rattle.wkt_crs.specs.declared.definition.DefinitionFault.{DefinitionFault}
@@ -45,7 +45,7 @@ seen_only (Err f) bytes e h is = inr (ap Err (only_memory bytes f is h))
 
 -- these bytes are their own canonical text
 
-pub own : {seen : Seen} {bytes : List ℕ} → (length bytes ≤ 65536) × IsCanonicalOf seen bytes → SpellsCanon bytes bytes
+pub own : {seen : SeenSystem} {bytes : List ℕ} → (length bytes ≤ 65536) × IsCanonicalOf seen bytes → SpellsCanon bytes bytes
 own (short, r) = record { value = crs_seen r; spells = seen_spells r short; is = r.is }
 
 is_canon : (text bytes : List ℕ) (v : Crs) → SpellsCanon text bytes → Spells text v → bytes ≡ canon v
@@ -71,7 +71,7 @@ condensed_fault text bytes fault.NotCanonical r h = absurd h
 condensed_fault text bytes fault.Memory r h = tt
 
 -- a text whose condensed bytes are canonical spells their value; the bytes are read as two slices, a and b
-pub condensed_canon : (text bytes a b : List ℕ) (seen : Seen) → a ≡ bytes → b ≡ bytes → IsReadAs text bytes → (length a ≤ 65536) × IsCanonicalOf seen a → SpellsCanon text b
+pub condensed_canon : (text bytes a b : List ℕ) (seen : SeenSystem) → a ≡ bytes → b ≡ bytes → IsReadAs text bytes → (length a ≤ 65536) × IsCanonicalOf seen a → SpellsCanon text b
 condensed_canon text bytes a b seen e g r s =
     canon_as text b b (subst (IsReadAs text) (sym g) r) (own (subst (λ l. (length l ≤ 65536) × IsCanonicalOf seen l) (e ∙ sym g) s))
 

@@ -17,7 +17,7 @@ use Rattle.wkt_tree.specs.Faults as tree
 use Rattle.wkt_tree.proofs.Exclusion.{fault_no}
 use Rattle.wkt_grammar.specs.declared.fault.SlotFault.{SlotFault}
 use Rattle.wkt_canonical.specs.declared.identifiers.Identifier.{Identifier}
-use Rattle.wkt_canonical.specs.declared.crs.Seen.{Seen}
+use Rattle.wkt_canonical.specs.declared.crs.SeenSystem.{SeenSystem}
 use Rattle.wkt_canonical.specs.Seen.{Identifies, IsFirst}
 use Rattle.wkt_canonical.specs.Reads.{IsCanonicalOf}
 use Rattle.wkt_crs.specs.Spells.{Spells}
@@ -27,18 +27,18 @@ use Rattle.wkt_crs.proofs.Texts.{no_slot}
 use Rattle.wkt_crs.proofs.Defining.{canonical_text, defines, of_definition}
 
 -- the reference system whose canonical text the bytes are
-abbrev pub crs_seen : {seen : Seen} {bytes : List ℕ} → IsCanonicalOf seen bytes → Crs
+abbrev pub crs_seen : {seen : SeenSystem} {bytes : List ℕ} → IsCanonicalOf seen bytes → Crs
 crs_seen r = record { parts = r.value; conditions = r.conditions }
 
-pub seen_spells : {seen : Seen} {bytes : List ℕ} (r : IsCanonicalOf seen bytes) → length bytes ≤ 65536 → Spells bytes (crs_seen r)
+pub seen_spells : {seen : SeenSystem} {bytes : List ℕ} (r : IsCanonicalOf seen bytes) → length bytes ≤ 65536 → Spells bytes (crs_seen r)
 seen_spells {bytes = bytes} r short = canonical_text (crs_seen r) bytes r.is short
 
 -- ---- such a text has no fault of its tokens or its slots
 
-pub no_text_fault : {seen : Seen} {bytes : List ℕ} (f : TextFault) → IsCanonicalOf seen bytes → length bytes ≤ 65536 → tree.FirstFault bytes f → ⊥
+pub no_text_fault : {seen : SeenSystem} {bytes : List ℕ} (f : TextFault) → IsCanonicalOf seen bytes → length bytes ≤ 65536 → tree.FirstFault bytes f → ⊥
 no_text_fault {bytes = bytes} f r short h = let s = seen_spells r short in fault_no bytes _ f h s.outline
 
-pub no_slot_fault : {seen : Seen} {bytes : List ℕ} (f : SlotFault) → IsCanonicalOf seen bytes → length bytes ≤ 65536 → FirstSlot bytes f → ⊥
+pub no_slot_fault : {seen : SeenSystem} {bytes : List ℕ} (f : SlotFault) → IsCanonicalOf seen bytes → length bytes ≤ 65536 → FirstSlot bytes f → ⊥
 no_slot_fault {bytes = bytes} f r short h = no_slot bytes (crs_seen r) f (seen_spells r short) h
 
 -- ---- if no identifier is seen, there is none
@@ -48,10 +48,10 @@ none_first [] seen e h = refl
 none_first (id ∷ others) None e h = absurd h
 none_first (id ∷ others) (Some first) e h = absurd (cc)
 
-pub has_none : {seen : Seen} {bytes : List ℕ} (r : IsCanonicalOf seen bytes) → seen.identifier ≡ None → HasNone (crs_seen r)
+pub has_none : {seen : SeenSystem} {bytes : List ℕ} (r : IsCanonicalOf seen bytes) → seen.identifier ≡ None → HasNone (crs_seen r)
 has_none {seen} r e = none_first (ids_of r.value) seen.identifier e r.seen_of.identifier
 
-pub undefined : {seen : Seen} {bytes : List ℕ} → IsCanonicalOf seen bytes → length bytes ≤ 65536 → seen.identifier ≡ None → IsDefinition bytes → ⊥
+pub undefined : {seen : SeenSystem} {bytes : List ℕ} → IsCanonicalOf seen bytes → length bytes ≤ 65536 → seen.identifier ≡ None → IsDefinition bytes → ⊥
 undefined {bytes = bytes} r short e d = (of_definition bytes (crs_seen r) d (seen_spells r short)).1 (has_none r e)
 
 -- ---- if an identifier is seen, it is the first one
@@ -69,7 +69,7 @@ some_first (id ∷ others) (Some found) first e h =
     let same : found ≡ first = cc in
     record { id = id; others = others; is = refl; identifies = subst (λ f. Identifies f id) same h }
 
-pub first_seen : {seen : Seen} {bytes : List ℕ} (first : Identifier) (r : IsCanonicalOf seen bytes) → seen.identifier ≡ Some first → First first (ids_of r.value)
+pub first_seen : {seen : SeenSystem} {bytes : List ℕ} (first : Identifier) (r : IsCanonicalOf seen bytes) → seen.identifier ≡ Some first → First first (ids_of r.value)
 first_seen {seen} first r e = some_first (ids_of r.value) seen.identifier first e r.seen_of.identifier
 
 pub has_one : (first : Identifier) (ids : List Ident) → First first ids → ids ≡ [] → ⊥
@@ -81,10 +81,10 @@ code_utf8 : (v : NumberOrText) → is_utf8 (text_of v) ≡ true
 code_utf8 (code.Number d) = spelled_is_utf8 _ _ _ (numeral_spells d)
 code_utf8 (code.Text t) = t.utf8
 
-pub authority_utf8 : {seen : Seen} {bytes : List ℕ} (first : Identifier) → IsCanonicalOf seen bytes → seen.identifier ≡ Some first → is_utf8 first.authority.now ≡ true
+pub authority_utf8 : {seen : SeenSystem} {bytes : List ℕ} (first : Identifier) → IsCanonicalOf seen bytes → seen.identifier ≡ Some first → is_utf8 first.authority.now ≡ true
 authority_utf8 first r e = let f = first_seen first r e in ap is_utf8 (sym f.identifies.authority) ∙ f.id.authority.utf8
 
-pub key_code_utf8 : {seen : Seen} {bytes : List ℕ} (first : Identifier) → IsCanonicalOf seen bytes → seen.identifier ≡ Some first → is_utf8 first.code.now ≡ true
+pub key_code_utf8 : {seen : SeenSystem} {bytes : List ℕ} (first : Identifier) → IsCanonicalOf seen bytes → seen.identifier ≡ Some first → is_utf8 first.code.now ≡ true
 key_code_utf8 first r e = let f = first_seen first r e in ap is_utf8 (sym f.identifies.code) ∙ code_utf8 f.id.code
 
 -- ---- the definition that such a text is
@@ -95,11 +95,11 @@ key_of_first first ids key f a k id others e =
     let same : f.id ≡ id = cc in
     subst (λ i. IsKeyOf i key) same (record { authority = a ∙ sym f.identifies.authority; code = k ∙ sym f.identifies.code })
 
-pub defines_seen : {seen : Seen} {bytes : List ℕ} (first : Identifier) (key : Key) (name : Text) → IsCanonicalOf seen bytes → length bytes ≤ 65536 → seen.identifier ≡ Some first → key.authority.bytes ≡ first.authority.now → key.code.bytes ≡ first.code.now → name.bytes ≡ seen.name.now → IsDefinedBy key name bytes
+pub defines_seen : {seen : SeenSystem} {bytes : List ℕ} (first : Identifier) (key : Key) (name : Text) → IsCanonicalOf seen bytes → length bytes ≤ 65536 → seen.identifier ≡ Some first → key.authority.bytes ≡ first.authority.now → key.code.bytes ≡ first.code.now → name.bytes ≡ seen.name.now → IsDefinedBy key name bytes
 defines_seen {bytes = bytes} first key name r short e a k n =
     let f = first_seen first r e in
     defines (crs_seen r) key name bytes (r.is, short, has_one first (ids_of r.value) f) (key_of_first first (ids_of r.value) key f a k) (n ∙ sym r.seen_of.name)
 
-pub is_definition_seen : {seen : Seen} {bytes : List ℕ} (first : Identifier) (r : IsCanonicalOf seen bytes) → length bytes ≤ 65536 → seen.identifier ≡ Some first → IsDefinition bytes
+pub is_definition_seen : {seen : SeenSystem} {bytes : List ℕ} (first : Identifier) (r : IsCanonicalOf seen bytes) → length bytes ≤ 65536 → seen.identifier ≡ Some first → IsDefinition bytes
 is_definition_seen first r short e =
     record { crs = crs_seen r; canonical = r.is; short = short; identified = has_one first (ids_of r.value) (first_seen first r e) }

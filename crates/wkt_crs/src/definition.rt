@@ -12,16 +12,18 @@ ghost use Rattle.wkt_crs.specs.Faults.{FirstSlot};
 ghost use Rattle.wkt_crs.specs.Definition.{HasNone, IsCanonicalFault, IsSeenFault, IsDefinedBy, IsDefinition, of_read};
 ghost use Rattle.wkt_crs.specs.declared.definition.DefinitionFault.TheVariants as fault;
 
+use crate::block::text_in;
 use crate::fault::{ReadFault, Unspelled};
 use crate::reading::{read_crs, read_spelled};
 use crate::writing::write_crs;
+use bytes::Bytes;
 use crs_part::{Many, Text, TryClone};
 use crs_value::{Crs, Key};
 use std::alloc::{AllocError, Global};
 use std::fmt;
 use std::marker::Model;
 use std::rc::Rc;
-use wkt_canonical::{Identifier, Seen, recognize};
+use wkt_canonical::{Identifier, SeenSystem, recognize};
 use wkt_write::condense;
 
 /// Why a reference system, or a text, is not a definition.
@@ -84,12 +86,12 @@ impl fmt::Display for DefinitionFault {
 struct Body {
     key: Key,
     name: Text,
-    text: Vec<u8>,
-    ghost defined: { IsDefinedBy key name text.items },
+    text: Bytes,
+    ghost defined: { IsDefinedBy key name text },
 }
 
-/// A reference system with an identifier, held as its canonical text. Copies share the text, and no value is kept, so a
-/// register takes little more memory than its texts.
+/// A reference system with an identifier, held as its canonical text. Copies share the text, definitions of one file can share
+/// its bytes, and no value is kept, so a register takes little more memory than its texts.
 #[derive(Drop)]
 pub struct Definition {
     body: Rc<Body>,
@@ -100,7 +102,7 @@ impl Model for Definition {
 
     ghost Value = { List ℕ };
 
-    ghost view = { λ d. d.body.value.text.items };
+    ghost view = { λ d. d.body.value.text };
 }
 
 impl Definition {
@@ -148,13 +150,31 @@ impl Definition {
         ensures text { (f : TextFault) → length bytes.now ≤ 65536 → tree.FirstFault bytes.now f → result ≡ Err (fault.Read (refused.Text f)) }
         ensures slot { (f : SlotFault) → length bytes.now ≤ 65536 → FirstSlot bytes.now f → result ≡ Err (fault.Read (refused.Slot f)) }
     {
+        Definition::from_block(alloc, &Bytes::new(), bytes, 0)
+    }
+
+    /// The same. If this text stands in the block with `behind` bytes after it, the definition is a part of the block, and no
+    /// byte of the text is copied. The block then lives as long as the definition.
+    pub fn from_block(
+        alloc: Global,
+        block: &Bytes,
+        bytes: &[u8],
+        behind: usize,
+    ) -> Result<Definition, DefinitionFault>
+        ensures ok { IfOk result (λ d. d ≡ bytes.now) }
+        ensures fault { IfErr result (IsCanonicalFault bytes.now) }
+        ensures only { IsDefinition bytes.now → (result ≡ Ok bytes.now) ⊎ (result ≡ Err fault.Memory) }
+        ensures long { 65536 < length bytes.now → result ≡ Err fault.CanonicalTooLong }
+        ensures text { (f : TextFault) → length bytes.now ≤ 65536 → tree.FirstFault bytes.now f → result ≡ Err (fault.Read (refused.Text f)) }
+        ensures slot { (f : SlotFault) → length bytes.now ≤ 65536 → FirstSlot bytes.now f → result ≡ Err (fault.Read (refused.Slot f)) }
+    {
         if bytes.len() > Definition::MAX {
             return Err(DefinitionFault::CanonicalTooLong);
         }
         let Some(seen) = recognize(bytes) else {
             return read_canonical(alloc, bytes);
         };
-        of_seen(alloc, bytes, seen)
+        seen_in_block(alloc, block, bytes, behind, seen)
     }
 
     /// The definition of the value that the text spells. No value is built if the text, or its condensed form, is recognized as
@@ -235,7 +255,7 @@ fn has_identifier(crs: &Crs) -> bool
 }
 
 // The findings for a text that is recognized as canonical and not too long for a definition.
-fn seen_in(text: &[u8]) -> Option<Seen<'_>>
+fn seen_in(text: &[u8]) -> Option<SeenSystem<'_>>
     ensures { IfSome result (λ seen. (length text.now ≤ 65536) × IsCanonicalOf seen text.now) }
 {
     if text.len() > Definition::MAX {
@@ -244,8 +264,24 @@ fn seen_in(text: &[u8]) -> Option<Seen<'_>>
     recognize(text)
 }
 
-// The definition with these bytes and findings, if there is an identifier.
-fn of_seen(alloc: Global, bytes: &[u8], seen: Seen<'_>) -> Result<Definition, DefinitionFault>
+// The definition with a copy of these bytes and with these findings, if there is an identifier.
+fn of_seen(alloc: Global, bytes: &[u8], seen: SeenSystem<'_>) -> Result<Definition, DefinitionFault>
+    requires { (length bytes.now ≤ 65536) × IsCanonicalOf seen bytes.now }
+    ensures ok { IfOk result (λ d. d ≡ bytes.now) }
+    ensures is { IfOk result IsDefinition }
+    ensures fault { IfErr result (IsSeenFault bytes.now) }
+{
+    seen_in_block(alloc, &Bytes::new(), bytes, 0, seen)
+}
+
+// The same, as a part of the block if the bytes stand there with `behind` bytes after them.
+fn seen_in_block(
+    alloc: Global,
+    block: &Bytes,
+    bytes: &[u8],
+    behind: usize,
+    seen: SeenSystem<'_>,
+) -> Result<Definition, DefinitionFault>
     requires { (length bytes.now ≤ 65536) × IsCanonicalOf seen bytes.now }
     ensures ok { IfOk result (λ d. d ≡ bytes.now) }
     ensures is { IfOk result IsDefinition }
@@ -254,7 +290,7 @@ fn of_seen(alloc: Global, bytes: &[u8], seen: Seen<'_>) -> Result<Definition, De
     let Some(identifier) = seen.identifier else {
         return Err(DefinitionFault::NoIdentifier);
     };
-    match recognized(alloc, bytes, seen, identifier) {
+    match recognized(alloc, block, bytes, behind, seen, identifier) {
         Ok(definition) => Ok(definition),
         Err(_) => Err(DefinitionFault::Memory),
     }
@@ -263,8 +299,10 @@ fn of_seen(alloc: Global, bytes: &[u8], seen: Seen<'_>) -> Result<Definition, De
 // The same with this identifier. No value is built.
 fn recognized(
     alloc: Global,
+    block: &Bytes,
     bytes: &[u8],
-    seen: Seen<'_>,
+    behind: usize,
+    seen: SeenSystem<'_>,
     identifier: Identifier<'_>,
 ) -> Result<Definition, AllocError>
     requires { (length bytes.now ≤ 65536) × IsCanonicalOf seen bytes.now × (seen.identifier ≡ Some identifier) }
@@ -275,7 +313,7 @@ fn recognized(
         code: text_of(alloc, identifier.code)?,
     };
     let name = text_of(alloc, seen.name)?;
-    let text = Vec::from_slice(alloc, bytes)?;
+    let text = text_in(alloc, block, bytes, behind)?;
     let body = Rc::new(alloc, Body { key, name, text })?;
     Ok(Definition { body })
 }
@@ -329,6 +367,9 @@ fn defined(alloc: Global, crs: &Crs, text: Vec<u8>) -> Result<Definition, Defini
         Err(_) => return Err(DefinitionFault::Memory),
     };
     let Ok(name) = crs.name().try_clone(alloc) else {
+        return Err(DefinitionFault::Memory);
+    };
+    let Ok(text) = Bytes::from_vec(text) else {
         return Err(DefinitionFault::Memory);
     };
     match Rc::new(alloc, Body { key, name, text }) {

@@ -1,6 +1,7 @@
 //! Texts of coordinate reference systems: reading and writing them, from slices, sources and to sinks.
 #![tactic(auto)]
 
+mod block;
 mod canonical;
 mod definition;
 mod fault;

@@ -13,7 +13,7 @@ use Rattle.wkt_tree.specs.Tree as tree
 use Rattle.wkt_tree.specs.Tokens.{doubled, Follow, Front, Cut, end_of}
 use Rattle.wkt_tree.proofs.Lexemes.{by_mark}
 use Rattle.wkt_tree.proofs.Sound.{word_begins, number_begins, quoted_begins, comma_begins, open_begins, close_begins}
-use Rattle.wkt_explain.specs.declared.path.Piece.TheVariants.{Mark, Opens, Closes, InWord, Blank, Other}
+use Rattle.wkt_explain.specs.declared.path.ByteKind.TheVariants.{Mark, Opens, Closes, InWord, Blank, Other}
 use Rattle.wkt_explain.specs.Path.{Read, start as fresh, piece_of, outside, takes, reads_on, is_named, path_at}
 use Rattle.wkt_explain.specs.Opened.{behind, opened_by, opened_by_all}
 

@@ -2,11 +2,11 @@
 -- a closing one closes the innermost.
 use Rattle.std.specs.Prelude.{ℕ, ◌-◌, ◌==◌, ◌||◌, Bool, true, false, not, List, [], ◌∷◌, ◌++◌, map, filter, length, take, if◌then◌else◌}
 use Rattle.wkt_tree.specs.Bytes.{is_blank, is_word_byte}
-use Rattle.wkt_explain.specs.declared.path.Piece.{Piece}
-use Rattle.wkt_explain.specs.declared.path.Piece.TheVariants.{Mark, Opens, Closes, InWord, Blank, Other}
-use Rattle.wkt_explain.specs.declared.path.Trail.{Trail}
+use Rattle.wkt_explain.specs.declared.path.ByteKind.{ByteKind}
+use Rattle.wkt_explain.specs.declared.path.ByteKind.TheVariants.{Mark, Opens, Closes, InWord, Blank, Other}
+use Rattle.wkt_explain.specs.declared.path.PathTrail.{PathTrail}
 
-abbrev pub piece_of : ℕ → Piece
+abbrev pub piece_of : ℕ → ByteKind
 piece_of b =
     if is_word_byte b then InWord
     else (if is_blank b then Blank
@@ -23,14 +23,14 @@ pub record Read : Type 0 where
   pub word : List ℕ
   pub opened : List (List ℕ)
 
-abbrev pub trail_seen : Trail → Read
+abbrev pub trail_seen : PathTrail → Read
 trail_seen t = record { quoted = t.quoted; whole = t.whole; word = t.word.items; opened = map (λ w. w.items) t.opened.items }
 
 abbrev pub start : Read
 start = record { quoted = false; whole = true; word = []; opened = [] }
 
 -- a byte outside quotation marks
-abbrev pub outside : Piece → ℕ → Read → Read
+abbrev pub outside : ByteKind → ℕ → Read → Read
 outside Mark b r = record { quoted = true; whole = true; word = []; opened = r.opened }
 outside Opens b r = record { quoted = r.quoted; whole = true; word = []; opened = r.opened ++ r.word ∷ [] }
 outside Closes b r = record { quoted = r.quoted; whole = true; word = []; opened = take (length r.opened - 1) r.opened }

@@ -9,7 +9,7 @@ use std::mem;
 
 /// The kind of a byte outside quotation marks.
 #[derive(Clone, Copy, Debug, PartialEq, Eq)]
-pub(crate) enum Piece {
+pub(crate) enum ByteKind {
     Mark,
     Opens,
     Closes,
@@ -30,40 +30,40 @@ pub(crate) fn is_blank(b: u8) -> bool
     b == b' ' || b == b'\t' || b == b'\r' || b == b'\n'
 }
 
-fn piece_of(b: u8) -> Piece
+fn piece_of(b: u8) -> ByteKind
     ensures { result ≡ piece_of b }
 {
     if is_word_byte(b) {
-        return Piece::InWord;
+        return ByteKind::InWord;
     }
     if is_blank(b) {
-        return Piece::Blank;
+        return ByteKind::Blank;
     }
     match b {
-        b'"' => Piece::Mark,
-        b'[' => Piece::Opens,
-        b'(' => Piece::Opens,
-        b']' => Piece::Closes,
-        b')' => Piece::Closes,
-        _ => Piece::Other,
+        b'"' => ByteKind::Mark,
+        b'[' => ByteKind::Opens,
+        b'(' => ByteKind::Opens,
+        b']' => ByteKind::Closes,
+        b')' => ByteKind::Closes,
+        _ => ByteKind::Other,
     }
 }
 
 /// The state at a place: whether it is in quotation marks, the word before it, whether that word is complete, and the
 /// words before the open delimiters, the outermost first.
 #[derive(Drop)]
-pub(crate) struct Trail {
+pub(crate) struct PathTrail {
     quoted: bool,
     whole: bool,
     word: Vec<u8>,
     opened: Vec<Vec<u8>>,
 }
 
-impl Trail {
-    fn new(alloc: Global) -> Trail
+impl PathTrail {
+    fn new(alloc: Global) -> PathTrail
         ensures { trail_seen result ≡ start }
     {
-        Trail {
+        PathTrail {
             quoted: false,
             whole: true,
             word: Vec::new(alloc),
@@ -72,7 +72,7 @@ impl Trail {
     }
 
     fn extend(&mut self, b: u8) -> Result<(), AllocError>
-        ensures { OnOk result (trail_seen self.new ≡ outside Piece.InWord b (trail_seen self.old)) }
+        ensures { OnOk result (trail_seen self.new ≡ outside ByteKind.InWord b (trail_seen self.old)) }
     {
         if self.whole {
             self.word.clear();
@@ -83,7 +83,7 @@ impl Trail {
     }
 
     fn begin(&mut self, alloc: Global, b: u8) -> Result<(), AllocError>
-        ensures { OnOk result (trail_seen self.new ≡ outside Piece.Opens b (trail_seen self.old)) }
+        ensures { OnOk result (trail_seen self.new ≡ outside ByteKind.Opens b (trail_seen self.old)) }
     {
         let word = mem::replace(&mut self.word, Vec::new(alloc));
         self.opened.push(word)?;
@@ -92,7 +92,7 @@ impl Trail {
     }
 
     fn end(&mut self, b: u8)
-        ensures { trail_seen self.new ≡ outside Piece.Closes b (trail_seen self.old) }
+        ensures { trail_seen self.new ≡ outside ByteKind.Closes b (trail_seen self.old) }
     {
         let _ = self.opened.pop();
         self.word.clear();
@@ -111,21 +111,21 @@ impl Trail {
         ensures { OnOk result (trail_seen self.new ≡ outside (piece_of b) b (trail_seen self.old)) }
     {
         match piece_of(b) {
-            Piece::InWord => self.extend(b),
-            Piece::Opens => self.begin(alloc, b),
-            Piece::Blank => {
+            ByteKind::InWord => self.extend(b),
+            ByteKind::Opens => self.begin(alloc, b),
+            ByteKind::Blank => {
                 self.whole = true;
                 Ok(())
             }
-            Piece::Closes => {
+            ByteKind::Closes => {
                 self.end(b);
                 Ok(())
             }
-            Piece::Mark => {
+            ByteKind::Mark => {
                 self.forget(true);
                 Ok(())
             }
-            Piece::Other => {
+            ByteKind::Other => {
                 self.forget(false);
                 Ok(())
             }
@@ -149,13 +149,13 @@ impl Trail {
 fn open_at(alloc: Global, text: &[u8]) -> Result<Vec<Vec<u8>>, AllocError>
     ensures { IfOk result (λ words. map (λ w. w.items) words.items ≡ open_at text.now) }
 {
-    let mut trail = Trail::new(alloc);
+    let mut trail = PathTrail::new(alloc);
     let mut rest = text;
     while let Some((b, others)) = rest.split_first() {
         trail.take(alloc, *b)?;
         rest = others;
     }
-    let Trail {
+    let PathTrail {
         quoted: _,
         whole: _,
         word: _,

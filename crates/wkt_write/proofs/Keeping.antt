@@ -10,7 +10,7 @@ use Rattle.wkt_tree.specs.Bytes.{is_blank}
 use Rattle.wkt_tree.specs.Tokens.{is_mark}
 use Rattle.wkt_tree.proofs.Lexemes.{front_passes}
 use Rattle.wkt_write.specs.Condensed.{Before, delimiter, quotation, other, is_delimiter, next, Shuts, Condenses, IsCondensed, done, keep, leave, respell}
-use Rattle.wkt_write.specs.declared.condensing.pieces.Piece.{Piece}
+use Rattle.wkt_write.specs.declared.condensing.pieces.FrontRun.{FrontRun}
 use Rattle.wkt_write.specs.Pieces.{is_plain, is_inner, before, Leads, IsPiece, IsNumeralFront, IsSpelledAnew, between, IsCopied}
 
 -- the context of the place after some bytes
@@ -160,11 +160,11 @@ pub record Stands (text out : List ℕ) (from at : ℕ) (shut : Bool) : Type 0 w
   pub leads : Leads delimiter text (out ++ between text from at) (before shut) (drop at text)
 
 -- the text up to the end of the piece condenses to `out` and `first`
-record OnPiece (text out : List ℕ) (at : ℕ) (shut : Bool) (piece : Piece) (first : List ℕ) : Type 0 where
+record OnPiece (text out : List ℕ) (at : ℕ) (shut : Bool) (piece : FrontRun) (first : List ℕ) : Type 0 where
   pub within : at + piece.len ≤ length text
   pub leads : Leads delimiter text (out ++ first) (before piece.shut) (drop (at + piece.len) text)
 
-on_piece : (text out : List ℕ) (at : ℕ) (s : Bool) (rest : List ℕ) (piece : Piece) (first : List ℕ) → at ≤ length text → rest ≡ drop at text → Leads delimiter text out (before s) (drop at text) → IsPiece s rest piece → (if piece.kept then take piece.len rest else []) ≡ first → OnPiece text out at s piece first
+on_piece : (text out : List ℕ) (at : ℕ) (s : Bool) (rest : List ℕ) (piece : FrontRun) (first : List ℕ) → at ≤ length text → rest ≡ drop at text → Leads delimiter text out (before s) (drop at text) → IsPiece s rest piece → (if piece.kept then take piece.len rest else []) ≡ first → OnPiece text out at s piece first
 on_piece text out at s rest piece first room back f p is =
     let left = ap length back in
     let whole = length-drop at text in
@@ -181,7 +181,7 @@ on_piece text out at s rest piece first room back f p is =
     }
 
 -- a piece that is kept is copied later
-pub kept_on : (text out : List ℕ) (from at : ℕ) (s : Bool) (rest : List ℕ) (piece : Piece) → Stands text out from at s → rest ≡ drop at text → IsPiece s rest piece → piece.kept ≡ true → Stands text out from (at + piece.len) piece.shut
+pub kept_on : (text out : List ℕ) (from at : ℕ) (s : Bool) (rest : List ℕ) (piece : FrontRun) → Stands text out from at s → rest ≡ drop at text → IsPiece s rest piece → piece.kept ≡ true → Stands text out from (at + piece.len) piece.shut
 kept_on text out from at s rest piece st back p k =
     let front : (if piece.kept then take piece.len rest else []) ≡ take piece.len (drop at text) = rw (k) (ap (take piece.len) back) in
     let o = on_piece text (out ++ between text from at) at s rest piece (take piece.len (drop at text)) st.within back st.leads p front in
@@ -194,7 +194,7 @@ kept_on text out from at s rest piece st back p k =
     }
 
 -- before a piece that is left out, the bytes that are not yet copied are copied
-pub left_on : (text out : List ℕ) (from at : ℕ) (s : Bool) (rest : List ℕ) (piece : Piece) (out' : List ℕ) → Stands text out from at s → rest ≡ drop at text → IsPiece s rest piece → piece.kept ≡ false → IsCopied out text from at out' → Stands text out' (at + piece.len) (at + piece.len) piece.shut
+pub left_on : (text out : List ℕ) (from at : ℕ) (s : Bool) (rest : List ℕ) (piece : FrontRun) (out' : List ℕ) → Stands text out from at s → rest ≡ drop at text → IsPiece s rest piece → piece.kept ≡ false → IsCopied out text from at out' → Stands text out' (at + piece.len) (at + piece.len) piece.shut
 left_on text out from at s rest piece out' st back p k copied =
     let front : (if piece.kept then take piece.len rest else []) ≡ [] = rw (k) refl in
     let o = on_piece text (out ++ between text from at) at s rest piece [] st.within back st.leads p front in

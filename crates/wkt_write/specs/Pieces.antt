@@ -4,7 +4,7 @@ use Rattle.wkt_tree.specs.Bytes.{is_blank}
 use Rattle.wkt_tree.specs.Tokens.{is_mark}
 use Rattle.wkt_write.specs.Alike.{SameNumber}
 use Rattle.wkt_write.specs.Condensed.{Before, delimiter, other, is_delimiter, Shuts, Condenses}
-use Rattle.wkt_write.specs.declared.condensing.pieces.Piece.{Piece}
+use Rattle.wkt_write.specs.declared.condensing.pieces.FrontRun.{FrontRun}
 
 -- a delimiter, a blank, a quotation mark, or any other byte
 abbrev pub class_of : ℕ → ℕ
@@ -25,7 +25,7 @@ before shut = if shut then delimiter else other
 abbrev pub Leads : Before → List ℕ → List ℕ → Before → List ℕ → Type 0
 Leads p bytes first q rest = (c : List ℕ) → Condenses q rest c → Condenses p bytes (first ++ c)
 
-pub record IsPiece (shut : Bool) (bytes : List ℕ) (piece : Piece) : Type 0 where
+pub record IsPiece (shut : Bool) (bytes : List ℕ) (piece : FrontRun) : Type 0 where
   pub some : 0 < piece.len
   pub within : piece.len ≤ length bytes
   pub leads : Leads (before shut) bytes (if piece.kept then take piece.len bytes else []) (before piece.shut) (drop piece.len bytes)

@@ -9,11 +9,11 @@ use crate::import::fault::{ImportFault, Unimported};
 use crate::import::notes::{note_of, notes_of};
 use crate::import::options::ImportOptions;
 use crate::import::texts::FileCut;
-use reg_import::{FileText, PackedAction, Problem, Refused, TextAction, first_refused};
+use reg_import::{FileText, PackedAction, Problem, RefusedText, TextAction, first_refused};
 use std::alloc::{AllocError, Global};
 
 // Why a text is rejected. The file with index 0 has this number among the files that are read.
-fn fault_of(first: usize, texts: &[FileText], refused: &Refused) -> Option<ImportFault>
+fn fault_of(first: usize, texts: &[FileText], refused: &RefusedText) -> Option<ImportFault>
     ensures some { IfSome result (IsAgainst first texts.now refused.now.at refused.now.problem) }
     ensures none { IfNone result (IsUncounted first (slice_get texts.now refused.now.at)) }
 {
@@ -36,7 +36,7 @@ fn note_at(
     options: &ImportOptions<'_>,
     files: &[Vec<u8>],
     cuts: &[FileCut<'_>],
-    refused: &Refused,
+    refused: &RefusedText,
 ) -> Result<Vec<u8>, AllocError>
     ensures note { IfOk result (λ note. note.items ≡ if_explained options.now (note_at options.now (bytes_of files.now) (map text_at cuts.now) refused.now.at refused.now.problem)) }
     ensures memory { IfErr result (λ e. options.now.explain ≡ true) }
@@ -64,7 +64,7 @@ pub fn refused_here(
     files: &[Vec<u8>],
     cuts: &[FileCut<'_>],
     texts: &[FileText],
-    refused: &Refused,
+    refused: &RefusedText,
 ) -> Result<Unimported, AllocError>
     ensures refused { IfOk result (λ u. IsRefusedAt options.now first (bytes_of files.now) (map text_at cuts.now) texts.now refused.now.at refused.now.problem u) }
     ensures memory { IfErr result (λ e. TakesMemory options.now first (slice_get texts.now refused.now.at)) }

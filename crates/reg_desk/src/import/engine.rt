@@ -5,7 +5,7 @@ ghost use Rattle.reg_desk.specs.ImportEngines.{kept_in, tried_in, IsImported, Is
 
 use super::fault::Unimported;
 use super::options::ImportOptions;
-use super::ready::{Ready, make_ready};
+use super::ready::{ReadyImport, make_ready};
 use super::room::HasRoom;
 use byte_io::{Sink, Source};
 use reg_engine::{Keep, keep_and_tell, tell};
@@ -42,7 +42,7 @@ pub fn run_import<T: Keep, F: Source, K: Sink>(
         Ok(register) => register,
         Err(fault) => return Err(Unimported::plain(alloc, fault)),
     };
-    let Ready {
+    let ReadyImport {
         register,
         lines,
         passed,
@@ -78,7 +78,7 @@ pub fn try_import<T: HasRoom, F: Source, K: Sink>(
         Ok(register) => register,
         Err(fault) => return Err(Unimported::plain(alloc, fault)),
     };
-    let Ready {
+    let ReadyImport {
         register,
         lines,
         passed,

@@ -109,7 +109,7 @@ fn first_fault(
     }
 }
 
-/// Why texts are not imported if memory ran out while they were read: what takes no memory is told nevertheless.
+/// Why texts are not imported if memory ran out while they were read: what takes no memory is reported nevertheless.
 pub fn run_out(
     alloc: Global,
     first: usize,

@@ -17,7 +17,7 @@ use crate::import::options::ImportOptions;
 use crate::import::texts::{FileCut, read_texts};
 use byte_io::Source;
 use reg_engine::{CliFault, Refusal, Store};
-use reg_import::{FileText, ImportRefusal, Listing, Refused, lines_text};
+use reg_import::{FileText, ImportRefusal, Listing, RefusedText, lines_text};
 use reg_links::old_rows;
 use reg_office::OfficeFault;
 use reg_state::Register;
@@ -25,7 +25,7 @@ use std::alloc::{AllocError, Global};
 
 /// The result of an import: the register, the lines, and the fault of texts that were passed over.
 #[derive(Drop)]
-pub struct Ready {
+pub struct ReadyImport {
     pub register: Register,
     pub lines: Vec<u8>,
     pub passed: Option<Unimported>,
@@ -58,7 +58,7 @@ fn refusal_of(
         }
         ImportRefusal::Memory => Unimported::plain(alloc, CliFault::Memory),
         ImportRefusal::Refused { at, problem } => {
-            let refused = Refused { at, problem };
+            let refused = RefusedText { at, problem };
             match refused_here(alloc, first, options, files, cuts, texts, &refused) {
                 Ok(why) => why,
                 Err(_) => Unimported::plain(alloc, CliFault::Memory),
@@ -123,7 +123,7 @@ fn made_of(
     files: &[Vec<u8>],
     cuts: &[FileCut<'_>],
     texts: &[FileText],
-) -> Result<Ready, Unimported>
+) -> Result<ReadyImport, Unimported>
     ensures made { IfOk result (λ r. MakesOf options.now first register (bytes_of files.now) (map text_at cuts.now) texts.now r.register r.lines.items r.passed) }
     ensures fault { IfErr result (IsUnmadeOf options.now first register (bytes_of files.now) (map text_at cuts.now) texts.now) }
 {
@@ -135,7 +135,7 @@ fn made_of(
         return Err(Unimported::plain(alloc, CliFault::Memory));
     };
     match lines_of(alloc, options, texts, &linked) {
-        Ok(lines) => Ok(Ready {
+        Ok(lines) => Ok(ReadyImport {
             register: linked.register,
             lines,
             passed,
@@ -151,7 +151,7 @@ fn made(
     first: usize,
     options: &ImportOptions<'_>,
     files: &[Vec<u8>],
-) -> Result<Ready, Unimported>
+) -> Result<ReadyImport, Unimported>
     ensures made { IfOk result (λ r. Makes options.now first register (bytes_of files.now) r.register r.lines.items r.passed) }
     ensures fault { IfErr result (IsUnmade options.now first register (bytes_of files.now)) }
 {
@@ -182,7 +182,7 @@ pub fn make_ready<T: Store, F: Source>(
     first: usize,
     options: &ImportOptions<'_>,
     files: &mut [F],
-) -> Result<Ready, Unimported>
+) -> Result<ReadyImport, Unimported>
     ensures ready { (was : T) → T.same was store.now → IfOk result (λ r. IsReadyIn (T.admission was) options.now first loaded
         (map F.state files.old) (map F.state files.new) r.register r.lines.items r.passed) }
     ensures fault { (was : T) → T.same was store.now → IfErr result (λ u. IsUnreadyIn (T.admission was) options.now first loaded

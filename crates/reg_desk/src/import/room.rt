@@ -141,23 +141,23 @@ fn shelf_room<D: Disk>(alloc: Global, disk: &mut D, register: &Register) -> Resu
 
 // The gate of a shelf, and the size of its slots.
 #[derive(Clone, Copy)]
-struct Head {
+struct ShelfHead {
     gate: u8,
     size: u32,
 }
 
-fn head_in(bytes: &[u8]) -> Head
+fn head_in(bytes: &[u8]) -> ShelfHead
     requires { length bytes.now ≡ 5 }
     ensures { HasHead bytes.now result.gate result.size }
 {
-    Head {
+    ShelfHead {
         gate: bytes[0],
         size: u32::from_be_bytes([bytes[1], bytes[2], bytes[3], bytes[4]]),
     }
 }
 
 // The head of the shelf as which the disk reads.
-fn read_head<D: Disk>(disk: &mut D) -> Result<Head, ShelfFault>
+fn read_head<D: Disk>(disk: &mut D) -> Result<ShelfHead, ShelfFault>
     ensures head { IsTrue (D.tells disk.old) → IfOk result (λ h. HasHead (D.seen disk.old) h.gate h.size) }
     ensures short { IsTrue (D.tells disk.old) → IsErrOf result ShelfFault.NotShelf → length (D.seen disk.old) < 5 }
     ensures faults { IfErr result (λ f. (f ≡ ShelfFault.NotShelf) ⊎ (f ≡ ShelfFault.DiskFailed)) }

@@ -21,7 +21,7 @@ pub enum Sign {
 
 /// A row that only one of two registers has.
 #[derive(Drop)]
-pub struct Change<'a> {
+pub struct SignedRow<'a> {
     pub sign: Sign,
     pub row: &'a Row,
 }

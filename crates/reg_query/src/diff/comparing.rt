@@ -11,7 +11,7 @@ use std::alloc::{AllocError, Global};
 
 /// The comparison of two registers.
 #[derive(Drop)]
-pub struct Comparison {
+pub struct RowDiff {
     /// A header, and a line for each row that only one of them has.
     pub text: Vec<u8>,
     /// Whether there is such a row.
@@ -19,7 +19,7 @@ pub struct Comparison {
 }
 
 /// Compares the rows of an older register with those of a newer one.
-pub fn compare(alloc: Global, old: &Register, new: &Register) -> Result<Comparison, AllocError>
+pub fn compare(alloc: Global, old: &Register, new: &Register) -> Result<RowDiff, AllocError>
     ensures text { IfOk result (λ made. IsDiff old.now new.now made.text.items) }
     ensures differ { IfOk result (λ made. IsTrue made.differ ↔ Differ old.now new.now) }
 {
@@ -27,7 +27,7 @@ pub fn compare(alloc: Global, old: &Register, new: &Register) -> Result<Comparis
     let news = rows(alloc, new)?;
     let changes = changes(alloc, &olds, &news)?;
     let text = changes_text(alloc, &changes)?;
-    Ok(Comparison {
+    Ok(RowDiff {
         text,
         differ: !changes.is_empty(),
     })

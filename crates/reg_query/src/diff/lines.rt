@@ -7,7 +7,7 @@ ghost use Rattle.reg_report.specs.Seen.{row_seen};
 ghost use Rattle.reg_query.specs.Changes.{signed};
 ghost use Rattle.reg_query.specs.ChangesSeen.{change_seen};
 
-use crate::diff::change::{Change, Sign, sign_text};
+use crate::diff::change::{Sign, SignedRow, sign_text};
 use csv::Writer;
 use reg_report::{Row, printed, spaced, status_word, write_fields};
 use std::alloc::{AllocError, Global};
@@ -59,7 +59,7 @@ fn write_row(
 }
 
 /// A header, and a line for each change.
-pub fn changes_text(alloc: Global, changes: &[Change<'_>]) -> Result<Vec<u8>, AllocError>
+pub fn changes_text(alloc: Global, changes: &[SignedRow<'_>]) -> Result<Vec<u8>, AllocError>
     ensures { IfOk result (λ text. IsSheet changes_header IsChangeLine (map change_seen changes.now) text.items) }
 {
     let mut wtr = Writer::from_writer(Vec::new(alloc));

@@ -8,19 +8,23 @@ ghost use Rattle.reg_query.specs.Changes.{signed, AreChanges};
 ghost use Rattle.reg_query.specs.ChangesSeen.{change_seen};
 ghost use Rattle.reg_query.specs.DiffWalk.{AddsUnlike};
 
-use crate::diff::change::{Change, Sign, is_same, order};
+use crate::diff::change::{Sign, SignedRow, is_same, order};
 use reg_report::Row;
 use std::alloc::{AllocError, Global};
 use std::cmp::Ordering;
 
-fn push<'a>(made: &mut Vec<Change<'a>>, sign: Sign, row: &'a Row) -> Result<(), AllocError>
+fn push<'a>(made: &mut Vec<SignedRow<'a>>, sign: Sign, row: &'a Row) -> Result<(), AllocError>
     ensures { OnOk result (map change_seen made.new.items ≡ map change_seen made.old.items ++ signed sign (row_seen row.now) ∷ []) }
 {
-    made.push(Change { sign, row })?;
+    made.push(SignedRow { sign, row })?;
     Ok(())
 }
 
-fn push_all<'a>(made: &mut Vec<Change<'a>>, sign: Sign, rows: &'a [Row]) -> Result<(), AllocError>
+fn push_all<'a>(
+    made: &mut Vec<SignedRow<'a>>,
+    sign: Sign,
+    rows: &'a [Row],
+) -> Result<(), AllocError>
     ensures { OnOk result (map change_seen made.new.items ≡ map change_seen made.old.items ++ map (λ r. signed sign (row_seen r)) rows.now) }
 {
     for row in rows {
@@ -31,7 +35,7 @@ fn push_all<'a>(made: &mut Vec<Change<'a>>, sign: Sign, rows: &'a [Row]) -> Resu
 
 // Appends both, unless they are equal.
 fn push_unlike<'a>(
-    made: &mut Vec<Change<'a>>,
+    made: &mut Vec<SignedRow<'a>>,
     gone: &'a Row,
     come: &'a Row,
 ) -> Result<(), AllocError>
@@ -50,7 +54,7 @@ pub fn changes<'a>(
     alloc: Global,
     old: &'a [Row],
     new: &'a [Row],
-) -> Result<Vec<Change<'a>>, AllocError>
+) -> Result<Vec<SignedRow<'a>>, AllocError>
     requires old { Ascends row_cmp (map row_seen old.now) }
     requires new { Ascends row_cmp (map row_seen new.now) }
     ensures { IfOk result (λ made. AreChanges (map row_seen old.now) (map row_seen new.now) (map change_seen made.items)) }

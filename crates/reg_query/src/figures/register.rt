@@ -62,14 +62,14 @@ pub fn figures_of(alloc: Global, register: &Register) -> Result<Figures, AllocEr
 
 /// The numbers of entries, in all and of each status.
 #[derive(Clone, Copy)]
-pub(crate) struct Counts {
+pub(crate) struct EntryCounts {
     entries: usize,
     valid: usize,
     superseded: usize,
     retired: usize,
 }
 
-fn counts_of(alloc: Global, register: &Register) -> Result<Counts, AllocError>
+fn counts_of(alloc: Global, register: &Register) -> Result<EntryCounts, AllocError>
     ensures { IfOk result (AreCounts (rows register.now.ops)) }
 {
     let statuses = statuses_of(alloc, register)?;
@@ -113,10 +113,10 @@ fn status_of(register: &Register, entry: OpId) -> Status
     status
 }
 
-fn counts_in(statuses: &[Status]) -> Counts
+fn counts_in(statuses: &[Status]) -> EntryCounts
     ensures { CountStatuses (map (λ t. Some t) statuses.now) result }
 {
-    Counts {
+    EntryCounts {
         entries: statuses.len(),
         valid: count_status(statuses, Status::Valid),
         superseded: count_status(statuses, Status::Superseded),
@@ -141,20 +141,20 @@ fn is_status(status: Status, wanted: Status) -> bool
 
 /// The numbers of what is not in order.
 #[derive(Clone, Copy)]
-pub(crate) struct Amiss {
+pub(crate) struct DisorderCounts {
     duplicates: usize,
     dangling: usize,
     withdrawn: usize,
 }
 
-fn amiss_of(alloc: Global, register: &Register) -> Result<Amiss, AllocError>
+fn amiss_of(alloc: Global, register: &Register) -> Result<DisorderCounts, AllocError>
     ensures { IfOk result (AreCountsAmiss (rows register.now.ops)) }
 {
     let rows = rows(alloc, register)?;
     let duplicates = count_amiss(alloc, &rows, Disorder::Duplicates)?;
     let dangling = count_amiss(alloc, &rows, Disorder::Dangling)?;
     let withdrawn = count_amiss(alloc, &rows, Disorder::Withdrawn)?;
-    Ok(Amiss {
+    Ok(DisorderCounts {
         duplicates,
         dangling,
         withdrawn,

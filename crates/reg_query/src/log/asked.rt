@@ -21,32 +21,32 @@ pub enum Asked<'a> {
 
 /// The same, with the entries in order, so that each is found by a binary search.
 #[derive(Drop)]
-pub(crate) enum Wanted {
+pub(crate) enum WantedEntries {
     All,
     These(Vec<OpId>),
 }
 
 /// The entries in order.
-pub(crate) fn in_order(alloc: Global, asked: &Asked<'_>) -> Result<Wanted, AllocError>
+pub(crate) fn in_order(alloc: Global, asked: &Asked<'_>) -> Result<WantedEntries, AllocError>
     ensures { IfOk result (λ wanted. AreWanted asked.now wanted) }
 {
     match asked {
-        Asked::All => Ok(Wanted::All),
+        Asked::All => Ok(WantedEntries::All),
         Asked::These(entries) => {
             let entries = sorted(alloc, entries)?;
-            Ok(Wanted::These(entries))
+            Ok(WantedEntries::These(entries))
         }
     }
 }
 
 /// Whether the operations of the entry are listed.
-pub(crate) fn is_wanted(wanted: &Wanted, entry: OpId) -> bool
+pub(crate) fn is_wanted(wanted: &WantedEntries, entry: OpId) -> bool
     requires { (asked : AskedOf) × AreWanted asked wanted.now }
     ensures { (asked : AskedOf) → AreWanted asked wanted.now → result ≡ is_asked asked entry }
 {
     match wanted {
-        Wanted::All => true,
-        Wanted::These(entries) => is_among(entries, entry),
+        WantedEntries::All => true,
+        WantedEntries::These(entries) => is_among(entries, entry),
     }
 }
 

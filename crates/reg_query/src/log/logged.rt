@@ -6,7 +6,7 @@ ghost use Rattle.reg_query.specs.Log.{subject, AreLogged};
 ghost use Rattle.reg_query.specs.Asked.{AreWanted, is_asked};
 ghost use Rattle.reg_query.specs.declared.log.asked.Asked.{Asked as AskedOf};
 
-use crate::log::asked::{Asked, Wanted, in_order, is_wanted};
+use crate::log::asked::{Asked, WantedEntries, in_order, is_wanted};
 use crate::log::order::{order, subject};
 use reg_op::Op;
 use reg_state::Register;
@@ -16,7 +16,7 @@ use std::alloc::{AllocError, Global};
 fn push_where_wanted(
     alloc: Global,
     made: &mut Vec<Op>,
-    wanted: &Wanted,
+    wanted: &WantedEntries,
     op: &Op,
 ) -> Result<(), AllocError>
     requires { (asked : AskedOf) × AreWanted asked wanted.now }
@@ -30,7 +30,7 @@ fn push_where_wanted(
     Ok(())
 }
 
-fn ops_wanted(alloc: Global, ops: &[Op], wanted: &Wanted) -> Result<Vec<Op>, AllocError>
+fn ops_wanted(alloc: Global, ops: &[Op], wanted: &WantedEntries) -> Result<Vec<Op>, AllocError>
     requires { (asked : AskedOf) × AreWanted asked wanted.now }
     ensures { (asked : AskedOf) → AreWanted asked wanted.now → IfOk result (λ made. made.items ≡ filter (λ (o : Operation). is_asked asked (subject o)) ops.now) }
 {

@@ -6,7 +6,7 @@ ghost use Rattle.wkt_texts.specs.Texts.{IsCutInto};
 ghost use Rattle.reg_texts.specs.Given.{IsFileUnread, IsFirstLeft};
 ghost use Rattle.reg_texts.specs.With.{IsRefusedIn, IsLeftIn, IsComparedWithFile, IsUncomparedWith, IsComparedInPart, IsUncomparedInPart};
 
-use crate::against::{Unread, compared_texts, compared_where_read};
+use crate::against::{UnreadTexts, compared_texts, compared_where_read};
 use crate::engines::differs::has_any;
 use byte_io::{Sink, Source, write_all};
 use reg_engine::{CliFault, OutFault, Store, read_whole};
@@ -103,7 +103,7 @@ pub fn run_compared_where_read<T: Store, S: Source, K: Sink>(
     }
 }
 
-fn left_in(file: usize, first: Option<Unread>) -> Option<WithFault>
+fn left_in(file: usize, first: Option<UnreadTexts>) -> Option<WithFault>
     ensures { (bytes : List ℕ) (cuts : List Piece) → IsCutInto bytes cuts → IsFirstLeft cuts first → IsLeftIn file bytes cuts result }
 {
     match first {
@@ -113,11 +113,11 @@ fn left_in(file: usize, first: Option<Unread>) -> Option<WithFault>
 }
 
 // The fault of a text in the file with this number.
-fn refused_in(file: usize, why: Unread) -> WithFault
+fn refused_in(file: usize, why: UnreadTexts) -> WithFault
     ensures { (bytes : List ℕ) → IsFileUnread bytes why → IsRefusedIn file bytes result }
 {
     match why {
-        Unread::Refused {
+        UnreadTexts::Refused {
             fault,
             at,
             place,
@@ -129,6 +129,6 @@ fn refused_in(file: usize, why: Unread) -> WithFault
             len,
             file,
         },
-        Unread::Memory => WithFault::Cli(CliFault::Memory),
+        UnreadTexts::Memory => WithFault::Cli(CliFault::Memory),
     }
 }

@@ -2,7 +2,7 @@
 
 use super::{EMPTY, HEIGHT, OFFICE_A, entry_file, id};
 use byte_io::{Pieces, Then, Writing};
-use byte_out::{InputOf, MemPlace, Step};
+use byte_out::{InputOf, MemPlace, PlaceStep};
 use reg_commands::{run_new, run_retire};
 use reg_engine::{CliFault, OutFault};
 use std::alloc::Global;
@@ -50,9 +50,9 @@ fn a_new_file_stands_in_the_place_of_the_old_one(rt: HostRuntime) {
 fn a_step_that_fails_leaves_the_old_file(rt: HostRuntime) {
     let alloc = rt.alloc();
     let steps = [
-        (Step::Make, OutFault::NotOpened),
-        (Step::Sync, OutFault::WriteFailed(14)),
-        (Step::Put, OutFault::NotOpened),
+        (PlaceStep::Make, OutFault::NotOpened),
+        (PlaceStep::Sync, OutFault::WriteFailed(14)),
+        (PlaceStep::Put, OutFault::NotOpened),
     ];
     for (step, fault) in steps {
         let mut place = place(&rt, alloc, None, 14);
@@ -117,8 +117,8 @@ fn a_file_that_is_not_the_one_that_was_read_stays(rt: HostRuntime) {
     assert!(rt; printed.is_empty());
 
     let steps = [
-        (Step::Reopen, OutFault::NotOpened),
-        (Step::Reread, OutFault::ReadFailed(0)),
+        (PlaceStep::Reopen, OutFault::NotOpened),
+        (PlaceStep::Reread, OutFault::ReadFailed(0)),
     ];
     for (step, cause) in steps {
         let mut unread = place(&rt, alloc, None, 1000);
@@ -144,7 +144,7 @@ fn ids_are_printed_where_the_folder_is_not_synced(rt: HostRuntime) {
     let alloc = rt.alloc();
     let file = entry_file(alloc, HEIGHT).expect(&rt, "a file");
     let mut place = place(&rt, alloc, None, 1000);
-    place.fail_at(Step::Land);
+    place.fail_at(PlaceStep::Land);
     let (fault, printed) = retired(&rt, alloc, &file, false, &mut place);
     assert_eq!(rt; fault, Some(CliFault::Out(OutFault::NotSynced)));
     assert!(rt; place.stands() != Some(OLD));
@@ -157,7 +157,7 @@ fn ids_are_printed_where_the_folder_is_not_synced(rt: HostRuntime) {
 fn a_file_that_is_not_put_prints_no_id(rt: HostRuntime) {
     let alloc = rt.alloc();
     let file = entry_file(alloc, HEIGHT).expect(&rt, "a file");
-    for step in [Step::Make, Step::Sync, Step::Put] {
+    for step in [PlaceStep::Make, PlaceStep::Sync, PlaceStep::Put] {
         let mut place = place(&rt, alloc, None, 1000);
         place.fail_at(step);
         let (fault, printed) = retired(&rt, alloc, &file, false, &mut place);

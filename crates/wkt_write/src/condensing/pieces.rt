@@ -9,7 +9,7 @@ use wkt_tree::first_mark;
 
 /// A run of bytes at the front: its length, whether it is kept, and whether its last non-blank byte is a delimiter.
 #[derive(Clone, Copy)]
-pub(crate) struct Piece {
+pub(crate) struct FrontRun {
     pub len: usize,
     pub kept: bool,
     pub shut: bool,
@@ -17,7 +17,7 @@ pub(crate) struct Piece {
 
 /// The next piece of the text, or none if it can be neither kept nor left out.
 #[inline(always)]
-pub(crate) fn next_piece(shut: bool, bytes: &[u8]) -> Option<Piece>
+pub(crate) fn next_piece(shut: bool, bytes: &[u8]) -> Option<FrontRun>
     requires { 0 < length bytes.now }
     ensures { IfSome result (λ piece. IsPiece shut bytes.now piece) }
 {
@@ -34,13 +34,13 @@ pub(crate) fn next_piece(shut: bool, bytes: &[u8]) -> Option<Piece>
 
 /// A word, a numeral, delimiters.
 #[inline(always)]
-fn plain_piece(shut: bool, bytes: &[u8], len: usize) -> Piece
+fn plain_piece(shut: bool, bytes: &[u8], len: usize) -> FrontRun
     requires some { 0 < len }
     requires within { len ≤ length bytes.now }
     requires plain { AllPass is_plain (take len bytes.now) }
     ensures { IsPiece shut bytes.now result }
 {
-    Piece {
+    FrontRun {
         len,
         kept: true,
         shut: is_delimiter(bytes[len - 1]),
@@ -49,14 +49,14 @@ fn plain_piece(shut: bool, bytes: &[u8], len: usize) -> Piece
 
 /// A quotation mark, up to the next.
 #[inline(always)]
-fn quoted_piece(shut: bool, bytes: &[u8]) -> Option<Piece>
+fn quoted_piece(shut: bool, bytes: &[u8]) -> Option<FrontRun>
     requires some { 0 < length bytes.now }
     requires mark { slice_index bytes.now 0 ≡ 34 }
     ensures { IfSome result (λ piece. IsPiece shut bytes.now piece) }
 {
     let (_, others) = bytes.split_at(1);
     let inside = first_mark(others)?;
-    Some(Piece {
+    Some(FrontRun {
         len: inside + 2,
         kept: true,
         shut: false,
@@ -65,7 +65,7 @@ fn quoted_piece(shut: bool, bytes: &[u8]) -> Option<Piece>
 
 /// Blanks that may be left out.
 #[inline(always)]
-fn blank_piece(shut: bool, bytes: &[u8]) -> Option<Piece>
+fn blank_piece(shut: bool, bytes: &[u8]) -> Option<FrontRun>
     ensures { IfSome result (λ piece. IsPiece shut bytes.now piece) }
 {
     let len = blank_len(bytes);
@@ -74,7 +74,7 @@ fn blank_piece(shut: bool, bytes: &[u8]) -> Option<Piece>
     }
     let (_, others) = bytes.split_at(len);
     if shut || shuts(others) {
-        return Some(Piece {
+        return Some(FrontRun {
             len,
             kept: false,
             shut,

@@ -1,7 +1,7 @@
 use Rattle.std.proofs.Common.{List, [], map, take, sym, subst}
 use Rattle.reg_op.specs.Rows.{Row}
 use Rattle.reg_report.specs.Seen.{row_seen}
-use Rattle.reg_disorder.specs.declared.listed.Listed.{Listed}
+use Rattle.reg_disorder.specs.declared.listed.ListedEntry.{ListedEntry}
 use Rattle.reg_disorder.specs.Disorders.{IsWithdrawn}
 use Rattle.reg_disorder.specs.Lists.{listed_seen, AreOf}
 use Rattle.reg_disorder.proofs.ListLemmas.{of_none, of_more}
@@ -9,7 +9,7 @@ use Rattle.reg_disorder.proofs.RowLemmas.{rows_more, rows_all}
 use Rattle.reg_disorder.proofs.withdrawn.withdrawn.Goals as goal
 
 pub loop-row-init : goal.loop-row-init
-loop-row-init c = subst (λ (ls : List Listed). AreOf (IsWithdrawn (map row_seen c.args.rows.now)) [] (map listed_seen ls)) (sym c.new-made.ensures.items) (of_none (IsWithdrawn (map row_seen c.args.rows.now)))
+loop-row-init c = subst (λ (ls : List ListedEntry). AreOf (IsWithdrawn (map row_seen c.args.rows.now)) [] (map listed_seen ls)) (sym c.new-made.ensures.items) (of_none (IsWithdrawn (map row_seen c.args.rows.now)))
 
 pub loop-row-preserved : goal.loop-row-preserved
 loop-row-preserved c =

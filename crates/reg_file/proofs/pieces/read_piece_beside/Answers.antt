@@ -1,8 +1,9 @@
+use Rattle.std.proofs.Common.{refl}
 use Rattle.reg_file.specs.Reading.{HasPieceFault}
 use Rattle.reg_file.proofs.SourceLemmas.{from_source}
 use Rattle.reg_file.proofs.pieces.read_piece_beside.Goals as goal
 
-pub returns-clause-fault : goal.returns-clause-fault
-returns-clause-fault g c =
-    from_source HasPieceFault (g.S.Source.state c.args.source.now) (g.S.Source.state c.read_up_to.new.source) c.in-Ok.bytes.items c.in-Ok.ensures.ok c.deref.result.now c.in-Err.fault
-    c.deref.ensures.value c.in-Err.ensures.fault
+pub returns-in-Err-clause-fault : goal.returns-in-Err-clause-fault
+returns-in-Err-clause-fault g c =
+    from_source HasPieceFault (g.S.Source.state c.args.source.now) (g.S.Source.state c.read_up_to.new.source) c.in-Ok.bytes.items c.in-Ok.ensures.ok c.in-Ok.bytes.items c.in-Err.fault refl
+    c.in-Err.ensures.fault

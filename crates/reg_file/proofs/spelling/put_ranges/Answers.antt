@@ -8,6 +8,6 @@ pub returns : goal.returns
 returns c =
     let rs = c.args.runs.now in
     c.in_ok-put_runs.ensures
-    ∙ (λ k. c.in_ok-put_number.ensures k ++ spelled_groups rs k)
+    ∙ (λ k. c.in_ok-put_number.ensures.ok k ++ spelled_groups rs k)
     ∙ append_assoc c.args.out.now.items (four c.replicas_of-replicas.result) (flat_map group_bytes (grouped rs))
     ∙ (λ k. c.args.out.now.items ++ (four (c.replicas_of-replicas.ensures.count k) ++ flat_map group_bytes (grouped rs)))

@@ -5,6 +5,6 @@ use Rattle.reg_import.proofs.index.put_known.Goals as goal
 
 pub returns : goal.returns
 returns c = λ at i.
-    entry_put c.in_ok-key.key c.take-before.result c.in_ok-bucket.bucket c.args.entry c.put.new.index at c.in_ok-key.ensures (c.take-before.ensures.found at i)
-    (λ j. record { known = c.in_ok-bucket.ensures.known j; ours = c.in_ok-bucket.ensures.ours j })
+    entry_put c.in_ok-key.key c.take-before.result c.in_ok-entries.entries c.args.entry c.put.new.index at c.in_ok-key.ensures (c.take-before.ensures.found at i)
+    (λ j. record { known = c.in_ok-entries.ensures.known j; ours = c.in_ok-entries.ensures.ours j })
     (c.in_ok-put.ensures (with_key (key_bytes c.in_ok-key.key) nothing_there at) (c.take-before.ensures.rest at i))

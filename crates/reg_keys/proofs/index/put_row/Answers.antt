@@ -10,11 +10,11 @@ use Rattle.reg_keys.proofs.index.put_row.Goals as goal
 pub returns : goal.returns
 returns c = λ rs holds q.
     let s = c.in_ok-spelling.spelling in
-    let old = get spelling_cmp c.args.buckets.now q in
+    let old = get spelling_cmp c.args.by_key.now q in
     let new = get spelling_cmp c.insert.new.self q in
     let before = c.take-rows.result.items in
     put_in (row_seen c.args.row) rs s.bytes.items q.bytes.items (rows_in old) (rows_in new) (map row_seen before) (map row_seen c.push.new.self.items) c.in_ok-spelling.ensures
     (subst (AreChosen (IsSpelled s.bytes.items) rs) (sym c.take-rows.ensures.found) (holds s))
     (ap (map row_seen) c.in_ok-push.ensures.items ∙ map-append row_seen before (c.args.row ∷ []))
-    (twice (is_eq (spelling_cmp s q)) c.push.new.self new (get spelling_cmp c.take-rows.new.buckets q) old (c.in_ok-insert.ensures.updates.0 q) (c.take-rows.ensures.rest q))
+    (twice (is_eq (spelling_cmp s q)) c.push.new.self new (get spelling_cmp c.take-rows.new.by_key q) old (c.in_ok-insert.ensures.updates.0 q) (c.take-rows.ensures.rest q))
     (holds q)

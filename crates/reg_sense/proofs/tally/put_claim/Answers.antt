@@ -5,15 +5,15 @@ use Rattle.std.specs.List.{list_any}
 use Rattle.std.specs.Ordering.{is_eq}
 use Rattle.crs_said.specs.Claims.{claim_seen}
 use Rattle.reg_sense.specs.Claimants.{voice, is_claim}
-use Rattle.reg_sense.specs.declared.tally.Pair.{Pair}
-use Rattle.reg_sense.specs.declared.tally.Tally.{Tally}
+use Rattle.reg_sense.specs.declared.tally.WordAndContent.{WordAndContent}
+use Rattle.reg_sense.specs.declared.tally.ClaimTally.{ClaimTally}
 use Rattle.reg_sense.specs.Tallies.{pair_cmp, counted, with_first, tally}
 use Rattle.reg_sense.proofs.TallyLemmas.{one_made, one_roomy, put_step}
 use Rattle.reg_sense.proofs.tally.put_claim.Goals as goal
 
 pub returns-in-Some : goal.returns-in-Some
 returns-in-Some c = λ done vs few had q.
-    let own : Pair = record { word = c.deref.result; content = c.deref-2.result } in
+    let own : WordAndContent = record { word = c.deref.result; content = c.deref-2.result } in
     let x = claim_seen c.args.claim.now in
     let v = voice c.args.claimant.now in
     let i = c.args.place in
@@ -23,21 +23,21 @@ returns-in-Some c = λ done vs few had q.
     ap counted c.in-Some.ensures.value
     ∙ had own
     ∙ (λ j. cond (list_any (is_claim (c.deref.ensures.value j) (c.deref-2.ensures.value j)) done) (Some (with_first (c.deref.ensures.value j) (c.deref-2.ensures.value j) i v vs)) (tally (c.deref.ensures.value j) (c.deref-2.ensures.value j) (suc i) vs)) in
-    (λ (w : Tally) (e : w ≡ c.one_more-next.result).
+    (λ (w : ClaimTally) (e : w ≡ c.one_more-next.result).
     put_step i v x done vs own q w (get pair_cmp c.args.tallies.now q) (get pair_cmp (c.get_mut.follows.lender w) q)
     c.deref.ensures.value c.deref-2.ensures.value
-    (ap (λ (t : Tally). counted (Some t)) e ∙ c.one_more-next.ensures (one_roomy x.word x.content i v vs b o few was) ∙ ap Some (one_made x.word x.content i v vs b o was))
+    (ap (λ (t : ClaimTally). counted (Some t)) e ∙ c.one_more-next.ensures (one_roomy x.word x.content i v vs b o few was) ∙ ap Some (one_made x.word x.content i v vs b o was))
     (((c.get_mut.follows.holds w).3 (search rules)).0 q)
     (had q)) _ (search rules)
 
 pub returns-in-None : goal.returns-in-None
 returns-in-None c = λ done vs few had.
-    let own : Pair = record { word = c.deref.result; content = c.deref-2.result } in
+    let own : WordAndContent = record { word = c.deref.result; content = c.deref-2.result } in
     let x = claim_seen c.args.claim.now in
     let v = voice c.args.claimant.now in
     let i = c.args.place in
     let b = list_any (is_claim x.word x.content) done in
-    let first : Tally = record { first = c.args.claimant; place = i; count = 1 } in
+    let first : ClaimTally = record { first = c.args.claimant; place = i; count = 1 } in
     let was =
     ap counted c.in-None.ensures.value
     ∙ had own

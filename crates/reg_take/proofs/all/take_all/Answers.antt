@@ -1,6 +1,6 @@
 use Rattle.std.proofs.Common.{ℕ, Bool, sym, subst}
 use Rattle.reg_take.specs.declared.taking.Taking.{Taking}
-use Rattle.reg_take.specs.declared.taking.Phase.TheVariants as phase
+use Rattle.reg_take.specs.declared.taking.TakePhase.TheVariants as phase
 use Rattle.reg_take.specs.Taken.{Shows, starting, each_taken, all_taken, rounds, AllWait, IsTakenFrom}
 use Rattle.reg_take.proofs.TakenLemmas.{taken_from, taken_again, if_ok_weaker}
 use Rattle.reg_take.proofs.all.take_all.Goals as goal

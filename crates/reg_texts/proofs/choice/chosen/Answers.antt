@@ -7,13 +7,13 @@ use Rattle.reg_texts.proofs.choice.chosen.Goals as goal
 pub loop-row-init : goal.loop-row-init
 loop-row-init g c =
     let rows = map row_seen c.args.rows.now in
-    let P = IsChosen (g.C.Choice.wants c.args.choice.now) in
+    let P = IsChosen (g.C.RowFilter.wants c.args.choice.now) in
     subst (Gathers P rows rows) (sym (ap seen_rows c.new-found.ensures.items)) (gathers_none P rows)
 
 pub loop-row-preserved : goal.loop-row-preserved
 loop-row-preserved g c =
     let rows = map row_seen c.args.rows.now in
-    let P = IsChosen (g.C.Choice.wants c.args.choice.now) in
+    let P = IsChosen (g.C.RowFilter.wants c.args.choice.now) in
     let mine = c.in_ok-push_chosen.ensures in
     subst (Gathers P rows (map row_seen c.in-Some.others.now)) (sym mine.2)
     (gathers_more P rows (map row_seen c.loop-row.rest.now) (map row_seen c.in-Some.others.now) (row_seen c.in-Some.row.now) (seen_rows c.loop-row.found.items) mine.0
@@ -22,4 +22,4 @@ loop-row-preserved g c =
 pub returns : goal.returns
 returns g c =
     let rows = map row_seen c.args.rows.now in
-    gathers_all (IsChosen (g.C.Choice.wants c.args.choice.now)) rows (map row_seen c.loop-row.rest.now) (seen_rows c.loop-row.found.items) (none_left row_seen c.loop-row.rest.now c.in_default.ensures.cases) c.loop-row.invariant
+    gathers_all (IsChosen (g.C.RowFilter.wants c.args.choice.now)) rows (map row_seen c.loop-row.rest.now) (seen_rows c.loop-row.found.items) (none_left row_seen c.loop-row.rest.now c.in_default.ensures.cases) c.loop-row.invariant

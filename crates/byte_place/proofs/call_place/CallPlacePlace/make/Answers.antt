@@ -1,4 +1,3 @@
-use Rattle.std.proofs.Math.Logic.{∥∥₁_map}
 use Rattle.byte_system.specs.System.{calls}
 use Rattle.byte_place.specs.declared.progress.At.TheVariants as at
 use Rattle.byte_place.proofs.Courses.{as_at}

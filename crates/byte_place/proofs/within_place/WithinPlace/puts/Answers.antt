@@ -10,7 +10,7 @@ pub invariant_of-self-in-Ok : goal.invariant_of-self-in-Ok
 invariant_of-self-in-Ok g c =
     let p = c.settles.new.self in
     let i = c.in-Ready.file in
-    let bytes = c.args._bytes.now in
+    let bytes = c.chunk-bytes.result.now in
     let old = calls (g.S.System.state p.system) in
     let new = calls (g.S.System.state c.fill.new.system) in
     let e : new ≡ filling i bytes old = search rules in
@@ -21,7 +21,7 @@ pub invariant_of-self-in-Err : goal.invariant_of-self-in-Err
 invariant_of-self-in-Err g c =
     let p = c.settles.new.self in
     let i = c.in-Ready.file in
-    let bytes = c.args._bytes.now in
+    let bytes = c.chunk-bytes.result.now in
     let old = calls (g.S.System.state p.system) in
     let new = calls (g.S.System.state c.fill.new.system) in
     let r : Spills c.in-Err.fault i bytes old new = search rules in

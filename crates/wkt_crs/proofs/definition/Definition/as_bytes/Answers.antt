@@ -6,4 +6,4 @@ use Rattle.wkt_crs.proofs.definition.Definition.as_bytes.Goals as goal
 pub returns-clause-canonical : goal.returns-clause-canonical
 returns-clause-canonical c =
     let b = c.self.inside.body.value in
-    subst IsDefinition c.self.view_is (is_definition b.key b.name b.text.items b.defined)
+    subst IsDefinition c.self.view_is (is_definition b.key b.name b.text b.defined)

@@ -7,4 +7,4 @@ use Rattle.wkt_crs.proofs.definition.Definition.key.Goals as goal
 pub returns : goal.returns
 returns c =
     let b = c.self.inside.body.value in
-    subst (λ (r : Body). IsKeyIn r.key c.args.self.now) (sym c.deref.ensures) (subst (IsKeyIn b.key) c.self.view_is (is_key_in b.key b.name b.text.items b.defined))
+    subst (λ (r : Body). IsKeyIn r.key c.args.self.now) (sym c.deref.ensures) (subst (IsKeyIn b.key) c.self.view_is (is_key_in b.key b.name b.text b.defined))

@@ -1,5 +1,0 @@
-use Rattle.wkt_canonical.proofs.Nodes as nodes
-use Rattle.wkt_canonical.proofs.identifiers.NamedNode.inside.Goals as goal
-
-pub returns : goal.returns
-returns c = nodes.member c.in_ok-rest.ensures
