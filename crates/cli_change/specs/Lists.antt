@@ -1,5 +1,5 @@
--- How a list of supersessions ends: which lines are told, and which fault.
-use Rattle.std.specs.Prelude.{◌≡◌, ◌⊎◌, Bool, false, List, map, Result, Ok, Err}
+-- How `supersede` ends: which lines of a list are told, and which fault.
+use Rattle.std.specs.Prelude.{◌≡◌, ◌⊎◌, Bool, false, List, [], map, Result, Ok, Err}
 use Rattle.reg_engine.specs.declared.fault.CliFault.{CliFault}
 use Rattle.reg_engine.specs.declared.fault.CliFault.TheVariants as cli
 use Rattle.reg_supersede.specs.declared.fault.RefusedLine.{RefusedLine}
@@ -10,6 +10,17 @@ use Rattle.cli_outcome.specs.declared.outcome.NotDone.TheVariants as stop
 use Rattle.cli_change.specs.declared.change.ToldLine.{ToldLine}
 use Rattle.cli_change.specs.declared.change.ListFault.{ListFault}
 use Rattle.cli_change.specs.declared.change.ListFault.TheVariants as list
+
+-- it is not done, for this fault
+abbrev pub IsStopped : {B : Type 0} → CliFault → Result (Done ToldLine B) (NotDone ListFault) → Type 0
+IsStopped f (Err (stop.Fault (list.Plain g))) = g ≡ f
+IsStopped f outcome = ⊥
+
+-- without a list: it is done and left nothing out, or has the fault of the command
+abbrev pub IsPlainOutcome : {A : Type 0} → {B : Type 0} → Result A CliFault → Result (Done ToldLine B) (NotDone ListFault) → Type 0
+IsPlainOutcome (Ok a) (Ok d) = (d.left.items ≡ []) × (d.differs ≡ false)
+IsPlainOutcome (Ok a) (Err s) = ⊥
+IsPlainOutcome (Err f) outcome = IsStopped f outcome
 
 -- this line is told, unless memory ran out for it
 abbrev pub IsAtLine : RefusedLine → ListFault → Type 0

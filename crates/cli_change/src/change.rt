@@ -4,7 +4,7 @@ ghost use Rattle.std.specs.Prelude.{◌≡◌, map, IfOk, IfSome, IfNone};
 ghost use Rattle.reg_supersede.specs.declared.fault.RefusedLine.{RefusedLine};
 ghost use Rattle.reg_supersede.specs.Engine.{Refuses};
 ghost use Rattle.cli_change.specs.declared.change.ToldLine.{ToldLine};
-ghost use Rattle.cli_change.specs.Lists.{IsAtLine, IsListFault, IsListDone, IsListOutcome};
+ghost use Rattle.cli_change.specs.Lists.{IsStopped, IsPlainOutcome, IsAtLine, IsListFault, IsListDone, IsListOutcome};
 
 use crate::by_words::changed_by_words;
 use crate::changing::change_of;
@@ -58,13 +58,22 @@ pub fn supersede(rt: &HostRuntime, matches: &ArgMatches<'_>) -> Superseded {
     if is_twice(matches.get_strs("BY").unwrap_or(&[])) {
         return Err(NotDone::Misuse(TWICE));
     }
-    match supersede_named(rt, matches) {
-        Ok(()) => Ok(all_done(rt.alloc(), ())),
+    outcome_of_one(rt.alloc(), supersede_named(rt, matches))
+}
+
+// The outcome without a list.
+fn outcome_of_one(alloc: Global, answer: Result<(), CliFault>) -> Superseded
+    ensures { IsPlainOutcome answer result }
+{
+    match answer {
+        Ok(()) => Ok(all_done(alloc, ())),
         Err(fault) => stopped(fault),
     }
 }
 
-fn stopped(fault: CliFault) -> Superseded {
+fn stopped(fault: CliFault) -> Superseded
+    ensures { IsStopped fault result }
+{
     Err(NotDone::Fault(ListFault::Plain(fault)))
 }
 

@@ -1,6 +1,8 @@
 //! Who changes a register: an office by its UUID, or one that works through its office file.
 
-ghost use Rattle.std.specs.Prelude.{None, IfOk};
+ghost use Rattle.std.specs.Prelude.{◌≡◌, ◌↔◌, None, Err, IfOk, IfErr, IsSome, IsOkAnd, option_map};
+ghost use Rattle.reg_engine.specs.declared.fault.CliFault.TheVariants as cli;
+ghost use Rattle.cli_open.specs.Offices.{office_made, IsClosed};
 ghost use Rattle.cli_change.specs.Desks.{IsDesk};
 
 use clap::ArgMatches;
@@ -57,7 +59,9 @@ impl<Q: Drop> Drop for Desk<Q> {
 
 impl<Q: Place> Desk<Q> {
     /// What the office file has, if the office has one.
-    pub fn made(&self) -> Option<&OfficeFile> {
+    pub fn made(&self) -> Option<&OfficeFile>
+        ensures { option_map (λ file. file.now) result ≡ office_made self.now.file }
+    {
         match &self.file {
             Some(office) => Some(&office.file),
             None => None,
@@ -65,7 +69,10 @@ impl<Q: Place> Desk<Q> {
     }
 
     /// Removes the new office file, unless it has replaced the old one.
-    pub fn close(&mut self) {
+    pub fn close(&mut self)
+        ensures file { IsClosed Q.state self.old.file self.new.file }
+        ensures replica { self.new.replica ≡ self.old.replica }
+    {
         if let Some(file) = &mut self.file {
             file.place.remove();
         }
@@ -144,11 +151,36 @@ fn misnamed_office<R: Files>(
         Ok(file) if file.is_file() => {}
         _ => return Ok(None),
     }
-    match office_at(rt, alloc, path) {
-        Ok(file) if file.replica() == named => Ok(Some(AS_IS_OFFICE)),
+    complaint(named, office_at(rt, alloc, path))
+}
+
+// What is wrong, if the office file was read so.
+fn complaint(
+    named: Uuid,
+    read: Result<OfficeFile, CliFault>,
+) -> Result<Option<&'static str>, CliFault>
+    ensures ok { IfOk result (λ wrong. IsSome wrong ↔ IsOkAnd read (λ file. file.replica ≡ named)) }
+    ensures fault { IfErr result (λ f. (f ≡ cli.Memory) × (read ≡ Err cli.Memory)) }
+    ensures memory { read ≡ Err cli.Memory → result ≡ Err cli.Memory }
+{
+    match read {
+        Ok(file) => {
+            let replica = file.replica();
+            drop(file);
+            Ok(complaint_of(named, replica))
+        }
         Err(CliFault::Memory) => Err(CliFault::Memory),
-        _ => Ok(None),
+        Err(_) => Ok(None),
     }
+}
+
+fn complaint_of(named: Uuid, replica: Uuid) -> Option<&'static str>
+    ensures { IsSome result ↔ (replica ≡ named) }
+{
+    if replica == named {
+        return Some(AS_IS_OFFICE);
+    }
+    None
 }
 
 // Whether the path leads to the office file or its new one, by any name, or the new file beside it is the office file.

@@ -10,7 +10,7 @@ use std::alloc::{AllocError, Global};
 use std::str;
 
 /// A copy of a register, if one was noted and there was memory for it.
-pub type Noted = Option<Result<Register, AllocError>>;
+pub type NotedRegister = Option<Result<Register, AllocError>>;
 
 /// What a register has that it had not before, and with `--lint` what an expert would ask about it, as it is printed.
 #[derive(Drop)]
@@ -33,8 +33,8 @@ impl Brought {
         &mut self,
         rt: &HostRuntime,
         matches: &ArgMatches<'_>,
-        earlier: &Noted,
-        later: &Noted,
+        earlier: &NotedRegister,
+        later: &NotedRegister,
     ) {
         let (Some(Ok(earlier)), Some(Ok(later))) = (earlier, later) else {
             return;

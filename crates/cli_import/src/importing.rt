@@ -1,4 +1,8 @@
 //! The command `import`.
+
+ghost use Rattle.cli_open.specs.Targets.{Admits, IsTriedBy};
+ghost use Rattle.cli_import.specs.Imports.{IsImportOutcome};
+
 use crate::brought::Brought;
 use crate::tried::Tried;
 use byte_io::{LateFile, LateSource};
@@ -29,10 +33,10 @@ pub struct NotImported {
 }
 
 /// How an import ended, and what it brought, if sentences are on.
-pub type Imported = Outcome<NotImported, NotImported, Brought>;
+pub type ImportOutcome = Outcome<NotImported, NotImported, Brought>;
 
 // The outcome of an import that did not begin.
-fn unbegun(alloc: Global, fault: CliFault) -> Imported {
+fn unbegun(alloc: Global, fault: CliFault) -> ImportOutcome {
     Err(NotDone::Fault(NotImported {
         why: Unimported::plain(alloc, fault),
         brought: Brought::nothing(alloc),
@@ -40,7 +44,7 @@ fn unbegun(alloc: Global, fault: CliFault) -> Imported {
 }
 
 /// `import`.
-pub fn import(rt: &HostRuntime, matches: &ArgMatches<'_>) -> Imported {
+pub fn import(rt: &HostRuntime, matches: &ArgMatches<'_>) -> ImportOutcome {
     let paths = matches.get_strs("FILE").unwrap_or(&[]);
     if is_twice(paths) {
         return Err(NotDone::Misuse(TWICE));
@@ -59,8 +63,15 @@ pub fn import(rt: &HostRuntime, matches: &ArgMatches<'_>) -> Imported {
     let mut brought = Brought::nothing(rt.alloc());
     let answer = import_at(rt, matches, &mut desk, paths, &names, &mut brought);
     desk.close();
+    outcome_of(rt.alloc(), answer, brought)
+}
+
+// The outcome of an import that brought this.
+fn outcome_of(alloc: Global, answer: Result<(), Unimported>, brought: Brought) -> ImportOutcome
+    ensures { IsImportOutcome answer brought result }
+{
     match answer {
-        Ok(()) => Ok(all_done(rt.alloc(), brought)),
+        Ok(()) => Ok(all_done(alloc, brought)),
         Err(why) => Err(NotDone::Fault(NotImported { why, brought })),
     }
 }
@@ -316,7 +327,9 @@ type AdmittedRegister<'a, F> = Either<
 fn tried<'a, F, P>(
     target: &'a mut RegisterTarget<F, P>,
     office: Option<&'a OfficeFile>,
-) -> Either<ReadRegister<'a, F>, AdmittedRegister<'a, F>> {
+) -> Either<ReadRegister<'a, F>, AdmittedRegister<'a, F>>
+    ensures { IsTriedBy office.entry result }
+{
     match office {
         None => Either::One(read_only(target)),
         Some(file) => Either::Other(admitted(target, file)),
@@ -333,7 +346,9 @@ fn read_only<'a, F, P>(target: &'a mut RegisterTarget<F, P>) -> ReadRegister<'a,
 fn admitted<'a, F, P>(
     target: &'a mut RegisterTarget<F, P>,
     file: &'a OfficeFile,
-) -> AdmittedRegister<'a, F> {
+) -> AdmittedRegister<'a, F>
+    ensures { Admits file.now result }
+{
     match target {
         RegisterTarget::File(source, _) => Either::One(TriedFile { source, file }),
         RegisterTarget::Shelf(disk) => Either::Other(TriedShelf { disk, file }),

@@ -10,5 +10,5 @@ mod tried;
 pub use brought::{Brought, say_brought};
 pub use cli_change as changes;
 pub use entering::enter;
-pub use importing::{Imported, NotImported, import};
+pub use importing::{ImportOutcome, NotImported, import};
 pub use settling::settle;

@@ -1,5 +1,5 @@
 //! A store of a dry run, which notes the register that is loaded and the one that would be kept.
-use crate::brought::Noted;
+use crate::brought::NotedRegister;
 use cli_open::engines::registers::Register;
 use cli_open::engines::{CliFault, Store};
 use reg_desk::HasRoom;
@@ -10,8 +10,8 @@ use std::alloc::Global;
 #[derive(Drop)]
 pub struct Tried<'a, T> {
     pub store: &'a mut T,
-    pub loaded: Noted,
-    pub fitting: Noted,
+    pub loaded: NotedRegister,
+    pub fitting: NotedRegister,
 }
 
 impl<T: Store> Store for Tried<'_, T> {

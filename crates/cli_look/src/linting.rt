@@ -5,7 +5,7 @@ use clap::ArgMatches;
 use cli_open::{Rows, answered, explains, is_twice, next_file, open, open_register, open_text};
 use cli_outcome::{NotDone, Outcome, compared};
 use desk_lint::{
-    ANY_RULES, AnyRule, Subject, TextsFault, read_texts, run_lint, run_lint_subjects, usual_of,
+    ANY_RULES, AnyRule, KeptSubject, TextsFault, read_texts, run_lint, run_lint_kept, usual_of,
 };
 use reg_desk::{
     CliFault, ImportFault, Problem, Reading, Recorded, Source, Unimported, Writing, explain_within,
@@ -48,8 +48,8 @@ fn lint_all(
     if paths.is_empty() {
         return with_plain_fault(rt.alloc(), lint_register(rt, matches, rules));
     }
-    let subjects = read_all(rt, matches, paths)?;
-    let answer = lint_subjects(rt, matches, rules, paths.len(), &subjects);
+    let kept = read_all(rt, matches, paths)?;
+    let answer = lint_subjects(rt, matches, rules, paths.len(), &kept);
     with_plain_fault(rt.alloc(), answer)
 }
 
@@ -111,11 +111,11 @@ fn lint_subjects(
     matches: &ArgMatches<'_>,
     rules: &[AnyRule],
     files: usize,
-    subjects: &[Subject],
+    kept: &[KeptSubject],
 ) -> Result<bool, CliFault> {
     let mut sink = Rows::sink(rt, matches, io::writer(rt));
     let number = files.saturating_add(1);
-    let answer = lint_subjects_to(rt, matches, rules, number, subjects, &mut sink);
+    let answer = lint_subjects_to(rt, matches, rules, number, kept, &mut sink);
     match answered(rt.alloc(), sink, answer) {
         Ok(answer) => answer,
         Err(fault) => Err(fault),
@@ -127,15 +127,15 @@ fn lint_subjects_to<W: Write>(
     matches: &ArgMatches<'_>,
     rules: &[AnyRule],
     number: usize,
-    subjects: &[Subject],
+    kept: &[KeptSubject],
     sink: &mut Writing<W>,
 ) -> Result<bool, CliFault> {
     let Some(path) = matches.get_str("known") else {
         let mut none = Reading::new(b"".as_slice());
-        return run_lint_subjects(rt.alloc(), subjects, rules, number, &mut none, sink);
+        return run_lint_kept(rt.alloc(), kept, rules, number, &mut none, sink);
     };
     let mut known = open(rt, number, path)?;
-    run_lint_subjects(rt.alloc(), subjects, rules, number, &mut known, sink)
+    run_lint_kept(rt.alloc(), kept, rules, number, &mut known, sink)
 }
 
 // The reference systems of the texts. The files are opened and read one after another.
@@ -143,8 +143,8 @@ fn read_all(
     rt: &HostRuntime,
     matches: &ArgMatches<'_>,
     paths: &[&str],
-) -> Result<Vec<Subject>, Unimported> {
-    let mut subjects = Vec::new(rt.alloc());
+) -> Result<Vec<KeptSubject>, Unimported> {
+    let mut kept = Vec::new(rt.alloc());
     for (i, path) in paths.iter().enumerate() {
         let number = i.saturating_add(1);
         let file = match open_text(rt, number, *path) {
@@ -152,18 +152,12 @@ fn read_all(
             Err(fault) => return Err(Unimported::plain(rt.alloc(), fault)),
         };
         let mut text = Recorded::new(rt.alloc(), file);
-        match read_texts(
-            rt.alloc(),
-            number,
-            path.as_bytes(),
-            &mut text,
-            &mut subjects,
-        ) {
+        match read_texts(rt.alloc(), number, path.as_bytes(), &mut text, &mut kept) {
             Ok(()) => {}
             Err(why) => return Err(unread(rt.alloc(), matches, *path, &text, why)),
         }
     }
-    Ok(subjects)
+    Ok(kept)
 }
 
 // A text that cannot be read is refused as by `import`.

@@ -1,4 +1,8 @@
 //! Commands that print something of a text, of a register, or of several registers.
+
+ghost use Rattle.cli_outcome.specs.Outcome.{IsComparedBy};
+ghost use Rattle.reg_desk.specs.declared.comparison.Comparison.{Comparison};
+
 use byte_io::LateFile;
 use clap::ArgMatches;
 use cli_faults::{CommandFiles, say};
@@ -224,10 +228,21 @@ where
 
 /// `diff`. It brings what it compared.
 pub fn diff(rt: &HostRuntime, matches: &ArgMatches<'_>) -> Outcome<CliFault, CliFault, Comparison> {
-    match merged(rt, matches) {
+    outcome_of(rt.alloc(), tells(matches), merged(rt, matches))
+}
+
+// The outcome of a comparison. The exit status tells a difference if it is asked to.
+fn outcome_of(
+    alloc: Global,
+    asked: bool,
+    found: Result<Comparison, CliFault>,
+) -> Outcome<CliFault, CliFault, Comparison>
+    ensures { IsComparedBy (λ (c : Comparison). c.differ) asked found result }
+{
+    match found {
         Ok(found) => {
             let differs = found.differ;
-            Ok(difference(rt.alloc(), tells(matches), differs, found))
+            Ok(difference(alloc, asked, differs, found))
         }
         Err(fault) => Err(NotDone::Fault(fault)),
     }

@@ -1,8 +1,15 @@
 //! Opens an office file, which another command of the office then waits for.
+
+ghost use Rattle.std.specs.Prelude.{◌≡◌, IfOk, OnOk, None, true};
+ghost use Rattle.byte_io.specs.Device.{target_of};
+ghost use Rattle.byte_out.specs.Place.{untold};
+ghost use Rattle.reg_journal.specs.Text.{FindsOffice};
+ghost use Rattle.cli_open.specs.Offices.{Makes, MakesNone};
+
 use crate::waiting::patience;
+use byte_io::{LateFile, LateSource};
 use reg_guard::engine::CliFault;
 use reg_guard::engine::places::{FilePlace, Place};
-use reg_guard::engine::streams::Reading;
 use reg_guard::{OfficeFile, busy, lock_office, office_in, unopened};
 use std::alloc::Global;
 use std::fs;
@@ -21,14 +28,17 @@ pub fn open_office<'a>(
     rt: &'a HostRuntime,
     alloc: Global,
     path: &'a str,
-) -> Result<OpenOffice<FilePlace<'a, HostRuntime>>, CliFault> {
+) -> Result<OpenOffice<FilePlace<'a, HostRuntime>>, CliFault>
+    ensures made { IfOk result (λ office. Makes (untold (target_of None)) (⟦<FilePlace<'a, HostRuntime> as Place>⟧.state office.place)) }
+    ensures beside { IfOk result (λ office. office.place.is_beside ≡ true) }
+{
     if has_second_name(rt, path) {
         return Err(unopened());
     }
     let Ok(mut place) = FilePlace::new(alloc, rt, path, None) else {
         return Err(CliFault::Memory);
     };
-    match read_locked(rt, alloc, path, &mut place) {
+    match read_locked(rt, alloc, &mut place, &mut LateFile::new(rt, path)) {
         Ok(file) => Ok(OpenOffice { file, place }),
         Err(fault) => {
             place.remove();
@@ -39,12 +49,17 @@ pub fn open_office<'a>(
 }
 
 // Makes the new office file, which is never one that is written in place, and then reads the old one.
-fn read_locked(
+fn read_locked<'a, S: LateSource>(
     rt: &HostRuntime,
     alloc: Global,
-    path: &str,
-    place: &mut FilePlace<'_, HostRuntime>,
-) -> Result<OfficeFile, CliFault> {
+    place: &mut FilePlace<'a, HostRuntime>,
+    source: &mut S,
+) -> Result<OfficeFile, CliFault>
+    ensures made { OnOk result (Makes (⟦<FilePlace<'a, HostRuntime> as Place>⟧.state place.old) (⟦<FilePlace<'a, HostRuntime> as Place>⟧.state place.new)) }
+    ensures beside { OnOk result (place.new.is_beside ≡ true) }
+    ensures found { IfOk result (FindsOffice (S.state source.old) (S.state source.new)) }
+    ensures unread { MakesNone (⟦<FilePlace<'a, HostRuntime> as Place>⟧.state place.old) (⟦<FilePlace<'a, HostRuntime> as Place>⟧.state place.new) → S.state source.new ≡ S.state source.old }
+{
     if place.reserve(patience(rt)?).is_err() {
         return Err(busy());
     }
@@ -52,7 +67,22 @@ fn read_locked(
     if !place.is_beside() {
         return Err(unopened());
     }
-    office_at(rt, alloc, path)
+    office_of(alloc, source)
+}
+
+// What the office file has.
+fn office_of<S: LateSource>(alloc: Global, source: &mut S) -> Result<OfficeFile, CliFault>
+    ensures { IfOk result (FindsOffice (S.state source.old) (S.state source.new)) }
+{
+    match office_in(alloc, source) {
+        Ok(file) => Ok(file),
+        Err(fault) => {
+            if source.is_shut() {
+                return Err(unopened());
+            }
+            Err(fault)
+        }
+    }
 }
 
 // Whether the office file has a second name, a hard link: that would keep what it has now.
@@ -65,8 +95,5 @@ fn has_second_name<R: Files>(rt: &R, path: &str) -> bool {
 
 /// What the office file at this path has.
 pub fn office_at<R: Files>(rt: &R, alloc: Global, path: &str) -> Result<OfficeFile, CliFault> {
-    match fs::open(rt, path) {
-        Ok(file) => office_in(alloc, &mut Reading::new(file)),
-        Err(_) => Err(unopened()),
-    }
+    office_of(alloc, &mut LateFile::new(rt, path))
 }

@@ -2,6 +2,7 @@
 
 ghost use Rattle.std.specs.Prelude.{◌≡◌};
 ghost use Rattle.cli_open.specs.Numbers.{after_target};
+ghost use Rattle.cli_open.specs.Targets.{HasOffice, IsStoreOf};
 
 use crate::inputs::{Replaced, open_input};
 use crate::offices::OpenOffice;
@@ -56,7 +57,9 @@ impl<F, P> RegisterTarget<F, P> {
     pub fn store<'a, Q>(
         &'a mut self,
         office: &'a mut Option<OpenOffice<Q>>,
-    ) -> ChangedRegister<'a, F, P, Q> {
+    ) -> ChangedRegister<'a, F, P, Q>
+        ensures { IsStoreOf office.old result }
+    {
         match office {
             None => Either::One(self.plain()),
             Some(office) => Either::Other(self.of_office(office)),
@@ -64,10 +67,9 @@ impl<F, P> RegisterTarget<F, P> {
     }
 
     // The same for an office with an office file.
-    fn of_office<'a, Q>(
-        &'a mut self,
-        office: &'a mut OpenOffice<Q>,
-    ) -> GuardedRegister<'a, F, P, Q> {
+    fn of_office<'a, Q>(&'a mut self, office: &'a mut OpenOffice<Q>) -> GuardedRegister<'a, F, P, Q>
+        ensures { HasOffice office.old.file result }
+    {
         let OpenOffice { file, place } = office;
         self.guarded(file, place)
     }
@@ -85,7 +87,9 @@ impl<F, P> RegisterTarget<F, P> {
         &'a mut self,
         file: &'a OfficeFile,
         office: &'a mut Q,
-    ) -> GuardedRegister<'a, F, P, Q> {
+    ) -> GuardedRegister<'a, F, P, Q>
+        ensures { HasOffice file.now result }
+    {
         match self {
             RegisterTarget::File(source, place) => Either::One(GuardedFile {
                 source,

@@ -1,8 +1,10 @@
 //! The arguments of a command: replicas, entries, files.
 
-ghost use Rattle.std.specs.Prelude.{◌≡◌, Some, None, IfOk, IfErr};
+ghost use Rattle.std.specs.Prelude.{◌≡◌, ◌↔◌, ◌<◌, Some, None, IfOk, IfErr, IsTrue};
+ghost use Rattle.std.specs.List.{count_by};
 ghost use Rattle.uuid.specs.Text.{parsed};
 ghost use Rattle.cli_open.specs.Used.{used_office};
+ghost use Rattle.cli_open.specs.Words.{is_dash};
 
 use clap::ArgMatches;
 use clap::parser::ValueSource;
@@ -215,18 +217,18 @@ pub fn open_text<R: Files>(rt: &R, number: usize, path: &str) -> Result<Reading<
     open(rt, number, path)
 }
 
+// Whether this word names standard input.
+fn is_dash(word: &str) -> bool
+    ensures { result ≡ is_dash word.now }
+{
+    word == STANDARD_INPUT
+}
+
 /// Whether standard input is named more than once.
-pub fn is_twice(paths: &[&str]) -> bool {
-    let mut is_named = false;
-    for path in paths {
-        if *path == STANDARD_INPUT {
-            if is_named {
-                return true;
-            }
-            is_named = true;
-        }
-    }
-    false
+pub fn is_twice(paths: &[&str]) -> bool
+    ensures { IsTrue result ↔ (1 < count_by (λ path. is_dash path.now) paths.now) }
+{
+    paths.iter().filter(|path| is_dash(**path)).count() > 1
 }
 
 /// The place of an output file, which is not open yet.

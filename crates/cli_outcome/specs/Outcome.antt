@@ -22,6 +22,11 @@ Tells TellsFault TellsMisuse TellsLeft TellsBrought (Ok d) old new = TellsDone T
 Tells TellsFault TellsMisuse TellsLeft TellsBrought (Err (stop.Fault f)) old new = TellsFault old f new
 Tells TellsFault TellsMisuse TellsLeft TellsBrought (Err (stop.Misuse line)) old new = TellsMisuse old line.now new
 
+-- of a command with an answer: what it brought, or the fault and nothing else
+abbrev pub TellsAnswer : {S : Type 0} → {F : Type 0} → {B : Type 0} → (S → F → S → Type 0) → (S → B → S → Type 0) → Result B F → S → S → Type 0
+TellsAnswer TellsFault TellsBrought (Ok b) old new = TellsBrought old b new
+TellsAnswer TellsFault TellsBrought (Err f) old new = TellsFault old f new
+
 -- ---- the exit status
 
 -- that of the first thing that was left out
@@ -46,6 +51,11 @@ exit_status fault left (Ok d) = done_status left d
 exit_status fault left (Err (stop.Fault f)) = fault f
 exit_status fault left (Err (stop.Misuse line)) = 2
 
+-- that of a command with an answer
+abbrev pub answer_status : {F : Type 0} → {B : Type 0} → (F → ℕ) → Result B F → ℕ
+answer_status fault (Ok b) = 0
+answer_status fault (Err f) = fault f
+
 -- the command is done, left nothing out, and has no difference to tell
 abbrev pub IsAllDone : {F : Type 0} → {L : Type 0} → {B : Type 0} → Result (Done L B) (NotDone F) → Type 0
 IsAllDone (Ok d) = (d.left.items ≡ []) × (d.differs ≡ false)
@@ -63,8 +73,12 @@ IsPart left answer outcome = ⊥
 abbrev pub IsEnded : {F : Type 0} → {L : Type 0} → {A : Type 0} → {B : Type 0} → Result A F → Result (Done L B) (NotDone F) → Type 0
 IsEnded answer outcome = IsPart (λ a. []) answer outcome
 
--- the same for one that answered whether it found a difference, which is told if that is asked for
+-- the same for one whose answer has a difference or not, which is told if that is asked for
+abbrev pub IsComparedBy : {F : Type 0} → {L : Type 0} → {A : Type 0} → {B : Type 0} → (A → Bool) → Bool → Result A F → Result (Done L B) (NotDone F) → Type 0
+IsComparedBy differs asked (Ok a) (Ok d) = (d.left.items ≡ []) × (d.differs ≡ (asked && differs a))
+IsComparedBy differs asked (Err f) (Err (stop.Fault g)) = g ≡ f
+IsComparedBy differs asked answer outcome = ⊥
+
+-- the answer itself says whether there is one
 abbrev pub IsCompared : {F : Type 0} → {L : Type 0} → {B : Type 0} → Bool → Result Bool F → Result (Done L B) (NotDone F) → Type 0
-IsCompared asked (Ok differs) (Ok d) = (d.left.items ≡ []) × (d.differs ≡ (asked && differs))
-IsCompared asked (Err f) (Err (stop.Fault g)) = g ≡ f
-IsCompared asked answer outcome = ⊥
+IsCompared asked answer outcome = IsComparedBy (λ (b : Bool). b) asked answer outcome

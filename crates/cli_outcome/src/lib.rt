@@ -6,5 +6,5 @@ mod reporting;
 mod teller;
 
 pub use outcome::{Done, NotDone, Outcome, all_done, compared, difference, ended};
-pub use reporting::report;
+pub use reporting::{report, report_answer};
 pub use teller::Teller;

@@ -18,15 +18,15 @@ pub struct Done<L, B> {
 
 /// Why a command is not done.
 #[derive(Drop)]
-pub enum NotDone<F> {
+pub enum NotDone<'m, F> {
     Fault(F),
     /// The command line is wrong, for a reason that clap does not check.
-    Misuse(&'static str),
+    Misuse(&'m str),
 }
 
 /// How a command ended whose faults are of the first kind, and which leaves things of the second kind out. It brought something of the
 /// third kind, to be told at the end.
-pub type Outcome<F, L = F, B = ()> = Result<Done<L, B>, NotDone<F>>;
+pub type Outcome<F, L = F, B = ()> = Result<Done<L, B>, NotDone<'static, F>>;
 
 /// A command that is done, left nothing out, and brought this.
 pub fn all_done<L, B>(alloc: Global, brought: B) -> Done<L, B>

@@ -1,9 +1,9 @@
 //! Tells how a command ended.
 
-ghost use Rattle.std.specs.Prelude.{◌≡◌, ◌↔◌};
-ghost use Rattle.cli_outcome.specs.Outcome.{TellsEach, TellsDone, Tells, left_out_status, whole_status, done_status, exit_status, IsAllDone};
+ghost use Rattle.std.specs.Prelude.{◌≡◌, ◌↔◌, IsOk};
+ghost use Rattle.cli_outcome.specs.Outcome.{TellsEach, TellsDone, Tells, left_out_status, whole_status, done_status, exit_status, IsAllDone, TellsAnswer, answer_status};
 
-use crate::outcome::{Done, NotDone, Outcome};
+use crate::outcome::{Done, NotDone};
 use crate::teller::Teller;
 
 /// The exit status for a wrong command line.
@@ -58,17 +58,39 @@ fn tell_done<F, L, B, T: Teller<F, L, B>>(teller: &mut T, done: &Done<L, B>) -> 
 }
 
 /// Tells how a command ended, and returns its exit status.
-pub fn report<F, L, B, T: Teller<F, L, B>>(teller: &mut T, outcome: &Outcome<F, L, B>) -> u8
-    ensures told { Tells T.tells_fault T.tells_misuse T.tells_left T.tells_brought outcome.now teller.old teller.new }
-    ensures status { result ≡ exit_status T.fault_status T.left_status outcome.now }
-    ensures zero { (result ≡ 0) ↔ IsAllDone outcome.now }
+pub fn report<F: Drop, L: Drop, B: Drop, T: Teller<F, L, B>>(
+    teller: &mut T,
+    outcome: Result<Done<L, B>, NotDone<'_, F>>,
+) -> u8
+    ensures told { Tells T.tells_fault T.tells_misuse T.tells_left T.tells_brought outcome.entry teller.old teller.new }
+    ensures status { result ≡ exit_status T.fault_status T.left_status outcome.entry }
+    ensures zero { (result ≡ 0) ↔ IsAllDone outcome.entry }
 {
-    match outcome {
+    match &outcome {
         Ok(done) => tell_done::<F, L, B, T>(teller, done),
         Err(NotDone::Fault(fault)) => teller.fault(fault),
         Err(NotDone::Misuse(line)) => {
             teller.misuse(*line);
             MISUSE
+        }
+    }
+}
+
+/// The same for a command that is done or has a fault.
+pub fn report_answer<F: Drop, T: Teller<F, F, ()>>(teller: &mut T, answer: Result<(), F>) -> u8
+    ensures told { TellsAnswer T.tells_fault T.tells_brought answer teller.old teller.new }
+    ensures status { result ≡ answer_status T.fault_status answer }
+    ensures zero { (result ≡ 0) ↔ IsOk answer }
+{
+    match answer {
+        Ok(()) => {
+            teller.brought(&());
+            0
+        }
+        Err(fault) => {
+            let status = teller.fault(&fault);
+            drop(fault);
+            status
         }
     }
 }

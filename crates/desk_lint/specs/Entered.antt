@@ -2,7 +2,7 @@
 use Rattle.std.specs.Prelude.{◌≡◌, ℕ, false, List, [], if◌then◌else◌}
 use Rattle.reg_op.specs.Contents.{Content}
 use Rattle.reg_lint.specs.declared.rule.AnyRule.{AnyRule}
-use Rattle.reg_lint.specs.declared.subject.Subject.{Subject}
+use Rattle.reg_lint.specs.Subjects.{Subject}
 use Rattle.reg_lint.specs.Entered.{AreEntered}
 use Rattle.reg_lint.specs.Lines.{lint_sheet, has_rows}
 

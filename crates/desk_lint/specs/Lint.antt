@@ -8,7 +8,7 @@ use Rattle.reg_engine.specs.declared.fault.CliFault.TheVariants as cli
 use Rattle.reg_engine.specs.Store.{Around, AreCut}
 use Rattle.reg_engine.specs.WholeFile.{Gives}
 use Rattle.reg_lint.specs.declared.rule.AnyRule.{AnyRule}
-use Rattle.reg_lint.specs.declared.subject.Subject.{Subject}
+use Rattle.reg_lint.specs.Subjects.{Subject}
 use Rattle.reg_lint.specs.Subjects.{AreLiveIn}
 use Rattle.reg_lint.specs.Known.{IsKnownFrom}
 use Rattle.reg_lint.specs.Lines.{lint_sheet, has_rows}

@@ -5,16 +5,16 @@ use Rattle.reg_engine.specs.declared.fault.CliFault.{CliFault}
 use Rattle.reg_engine.specs.declared.fault.CliFault.TheVariants as cli
 use Rattle.reg_engine.specs.WholeFile.{Gives, IsUnread}
 use Rattle.wkt_crs.specs.declared.definition.DefinitionFault.TheVariants as definition
-use Rattle.reg_lint.specs.declared.subject.Subject.{Subject}
+use Rattle.reg_lint.specs.declared.kept.KeptSubject.{KeptSubject}
 use Rattle.reg_lint.specs.declared.texts.Unread.{Unread}
 use Rattle.reg_lint.specs.declared.texts.Unread.TheVariants as why
-use Rattle.reg_lint.specs.Texts.{AreSubjectsOf, IsFileUnread}
+use Rattle.reg_lint.specs.Texts.{AreKeptOf, IsFileUnread}
 use Rattle.desk_lint.specs.declared.texts.TextsFault.{TextsFault}
 use Rattle.desk_lint.specs.declared.texts.TextsFault.TheVariants as texts
 
--- the file was read, and the reference systems of its texts come after the old ones
-abbrev pub Adds : List ℕ → SourceState → SourceState → List Subject → List Subject → Type 0
-Adds name old new before after = (bytes : List ℕ) × Gives old new bytes × AreSubjectsOf name bytes before after
+-- the file was read, and what is kept of its texts comes after what was kept before
+abbrev pub Adds : List ℕ → SourceState → SourceState → List KeptSubject → List KeptSubject → Type 0
+Adds name old new before after = (bytes : List ℕ) × Gives old new bytes × AreKeptOf name bytes before after
 
 -- the same reason, in the file with this number
 abbrev pub refused_in : ℕ → Unread → TextsFault

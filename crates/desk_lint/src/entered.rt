@@ -1,10 +1,11 @@
 //! What an expert would ask about the entries that a register has gained.
 
-ghost use Rattle.std.specs.Prelude.{◌≡◌, false, IfOk};
+ghost use Rattle.std.specs.Prelude.{◌≡◌, false, List, IfOk};
 ghost use Rattle.reg_lint.specs.Lines.{lint_sheet};
+ghost use Rattle.reg_lint.specs.Subjects.{Subject, AreKept};
 ghost use Rattle.desk_lint.specs.Entered.{if_rows, IsEnteredText};
 
-use reg_lint::{AnyRule, Known, Subject, entered_subjects, has_rows, lint_text};
+use reg_lint::{AnyRule, KeptSubject, Known, entered_subjects, has_rows, lint_text};
 use reg_state::Register;
 use std::alloc::{AllocError, Global};
 
@@ -18,17 +19,17 @@ pub fn entered_text(
 ) -> Result<Vec<u8>, AllocError>
     ensures { IfOk result (λ text. IsEnteredText rules.now earlier.now later.now text.items) }
 {
-    let subjects = entered_subjects(alloc, earlier, later)?;
-    let text = all_rows(alloc, rules, &subjects)?;
+    let kept = entered_subjects(alloc, earlier, later)?;
+    let text = all_rows(alloc, rules, &kept)?;
     Ok(if_rows(alloc, text))
 }
 
 // All rows, also those that were looked at before.
-fn all_rows(alloc: Global, rules: &[AnyRule], subjects: &[Subject]) -> Result<Vec<u8>, AllocError>
-    ensures { IfOk result (λ text. text.items ≡ lint_sheet (λ mark. false) rules.now subjects.now) }
+fn all_rows(alloc: Global, rules: &[AnyRule], kept: &[KeptSubject]) -> Result<Vec<u8>, AllocError>
+    ensures { (subjects : List Subject) → AreKept kept.now subjects → IfOk result (λ text. text.items ≡ lint_sheet (λ mark. false) rules.now subjects) }
 {
     let known = Known::none(alloc);
-    let text = lint_text(alloc, &known, rules, subjects)?;
+    let text = lint_text(alloc, &known, rules, kept)?;
     Ok(text)
 }
 

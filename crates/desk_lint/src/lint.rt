@@ -1,12 +1,13 @@
 //! The steps of `lint`.
 
-ghost use Rattle.std.specs.Prelude.{IfOk, IfErr};
+ghost use Rattle.std.specs.Prelude.{List, IfOk, IfErr};
+ghost use Rattle.reg_lint.specs.Subjects.{Subject, AreKept};
 ghost use Rattle.desk_lint.specs.Lint.{IsLintOf, IsLinted, IsUnlinted, AreLinted, AreUnlinted};
 
 use crate::looked::read_looked;
 use byte_io::{Sink, Source, write_all};
 use reg_engine::{CliFault, OutFault, Store};
-use reg_lint::{AnyRule, Subject, has_rows, known_rows, lint_text, live_subjects};
+use reg_lint::{AnyRule, KeptSubject, has_rows, known_rows, lint_text, live_subjects};
 use std::alloc::{AllocError, Global};
 use std::mem::forget;
 
@@ -29,13 +30,13 @@ pub fn run_lint<T: Store, S: Source, K: Sink>(
         Ok(register) => register,
         Err(fault) => return Err(fault),
     };
-    let subjects = match live_subjects(alloc, &register) {
-        Ok(subjects) => subjects,
+    let kept = match live_subjects(alloc, &register) {
+        Ok(kept) => kept,
         Err(_) => return Err(CliFault::Memory),
     };
-    match run_lint_subjects(alloc, &subjects, rules, next, known, sink) {
+    match run_lint_kept(alloc, &kept, rules, next, known, sink) {
         Ok(any) => {
-            forget(subjects);
+            forget(kept);
             forget(register);
             Ok(any)
         }
@@ -43,23 +44,23 @@ pub fn run_lint<T: Store, S: Source, K: Sink>(
     }
 }
 
-/// The same of these reference systems. The file of the rows that were looked at before has this number.
-pub fn run_lint_subjects<S: Source, K: Sink>(
+/// The same of the reference systems of which this is kept. The file of the rows that were looked at before has this number.
+pub fn run_lint_kept<S: Source, K: Sink>(
     alloc: Global,
-    subjects: &[Subject],
+    kept: &[KeptSubject],
     rules: &[AnyRule],
     number: usize,
     known: &mut S,
     sink: &mut K,
 ) -> Result<bool, CliFault>
-    ensures printed { IfOk result (AreLinted rules.now subjects.now (S.state known.old) (S.state known.new) (K.state sink.old) (K.state sink.new)) }
-    ensures fault { IfErr result (AreUnlinted rules.now subjects.now number (S.state known.old) (S.state known.new) (K.state sink.old) (K.state sink.new)) }
+    ensures printed { (ss : List Subject) → AreKept kept.now ss → IfOk result (AreLinted rules.now ss (S.state known.old) (S.state known.new) (K.state sink.old) (K.state sink.new)) }
+    ensures fault { (ss : List Subject) → AreKept kept.now ss → IfErr result (AreUnlinted rules.now ss number (S.state known.old) (S.state known.new) (K.state sink.old) (K.state sink.new)) }
 {
     let bytes = match read_looked(alloc, number, known) {
         Ok(bytes) => bytes,
         Err(fault) => return Err(fault),
     };
-    let text = match lint_beside(alloc, subjects, rules, &bytes) {
+    let text = match lint_beside(alloc, kept, rules, &bytes) {
         Ok(text) => text,
         Err(_) => return Err(CliFault::Memory),
     };
@@ -71,13 +72,13 @@ pub fn run_lint_subjects<S: Source, K: Sink>(
 
 fn lint_beside(
     alloc: Global,
-    subjects: &[Subject],
+    kept: &[KeptSubject],
     rules: &[AnyRule],
     known: &[u8],
 ) -> Result<Vec<u8>, AllocError>
-    ensures { IfOk result (λ text. IsLintOf rules.now known.now subjects.now text.items) }
+    ensures { (ss : List Subject) → AreKept kept.now ss → IfOk result (λ text. IsLintOf rules.now known.now ss text.items) }
 {
     let known = known_rows(alloc, known)?;
-    let text = lint_text(alloc, &known, rules, subjects)?;
+    let text = lint_text(alloc, &known, rules, kept)?;
     Ok(text)
 }

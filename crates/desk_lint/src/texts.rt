@@ -5,7 +5,7 @@ ghost use Rattle.desk_lint.specs.Texts.{Adds, IsTextsUnread, refused_in};
 
 use byte_io::Source;
 use reg_engine::{CliFault, read_whole};
-use reg_lint::{Subject, Unread, push_texts};
+use reg_lint::{KeptSubject, Unread, push_texts};
 use std::alloc::Global;
 use wkt_crs::DefinitionFault;
 
@@ -24,22 +24,22 @@ pub enum TextsFault {
     },
 }
 
-/// Reads the file with this number and this name, and appends the reference systems of its texts.
+/// Reads the file with this number and this name, and appends what is kept of its texts.
 pub fn read_texts<S: Source>(
     alloc: Global,
     number: usize,
     name: &[u8],
     file: &mut S,
-    subjects: &mut Vec<Subject>,
+    kept: &mut Vec<KeptSubject>,
 ) -> Result<(), TextsFault>
-    ensures ok { OnOk result (Adds name.now (S.state file.old) (S.state file.new) subjects.old.items subjects.new.items) }
+    ensures ok { OnOk result (Adds name.now (S.state file.old) (S.state file.new) kept.old.items kept.new.items) }
     ensures fault { IfErr result (IsTextsUnread number (S.state file.old) (S.state file.new)) }
 {
     let bytes = match read_whole(alloc, number, file) {
         Ok(bytes) => bytes,
         Err(fault) => return Err(TextsFault::Cli(fault)),
     };
-    match push_texts(alloc, subjects, name, &bytes) {
+    match push_texts(alloc, kept, name, &bytes) {
         Ok(()) => Ok(()),
         Err(why) => Err(refused_in(number, why)),
     }

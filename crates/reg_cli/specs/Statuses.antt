@@ -1,5 +1,5 @@
 -- The exit statuses of what standard error tells, which are never that of success.
-use Rattle.std.specs.Prelude.{◌≡◌, ℕ, Result, Ok, Err}
+use Rattle.std.specs.Prelude.{◌≡◌, ℕ}
 use Rattle.std.proofs.Common.{arith}
 use Rattle.reg_engine.specs.declared.fault.CliFault.{CliFault}
 use Rattle.reg_engine.specs.declared.fault.CliFault.TheVariants as cli
@@ -13,11 +13,6 @@ use Rattle.cli_change.specs.declared.change.ListFault.TheVariants as list
 -- a refusal, also of a line or of a key
 abbrev pub refused : ℕ
 refused = 1
-
--- a command that is done or has a fault
-abbrev pub plain_status : {A : Type 0} → Result A CliFault → ℕ
-plain_status (Ok a) = 0
-plain_status (Err f) = status_of f
 
 abbrev pub list_status : ListFault → ℕ
 list_status (list.Plain f) = status_of f

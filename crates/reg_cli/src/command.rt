@@ -2,7 +2,7 @@
 use crate::environment::Environment;
 use crate::overwriting::overwritten;
 use crate::shells::completions;
-use crate::telling::{StandardError, told, told_plainly};
+use crate::telling::StandardError;
 use clap::error::ErrorKind;
 use clap::{ArgMatches, Error};
 use cli_exchange::faults::{CommandFiles, print_lines};
@@ -13,7 +13,7 @@ use cli_import::{enter, import, settle};
 use cli_look::desk::CliFault;
 use cli_look::{check, compare, diff, find, lint, log, offices, report, status as figures, texts};
 use cli_open::{MISUSE, complain, explains, failed, is_table, names, print};
-use cli_outcome::NotDone;
+use cli_outcome::{NotDone, Outcome, report as told, report_answer as told_plainly};
 use cli_words::{CommandName, command_line, overview};
 use std::alloc::AllocError;
 use std::{env, io};
@@ -118,12 +118,12 @@ fn performed<'a>(
     inner: &ArgMatches<'a>,
     named: &Option<CommandFiles<'a>>,
 ) -> Option<u8> {
-    let to = StandardError {
+    let mut to = StandardError {
         rt,
         matches: inner,
         named,
     };
-    perform(rt, name, inner, &to)
+    perform(rt, name, inner, &mut to)
 }
 
 // Whether the command shows names of offices, also if it prints no table.
@@ -152,16 +152,16 @@ fn perform(
     rt: &HostRuntime,
     name: CommandName,
     inner: &ArgMatches<'_>,
-    to: &StandardError<'_, '_>,
+    to: &mut StandardError<'_, '_>,
 ) -> Option<u8> {
     if inner.get_str("office").is_some() {
-        if let Some(why) = mistaken(rt, inner) {
-            return Some(told::<CliFault, CliFault, ()>(to, Err(why)));
+        if let Some(outcome) = mistaken(rt, inner) {
+            return Some(told(to, outcome));
         }
     }
     if let Some(line) = overwritten(rt, name, inner) {
-        let why = NotDone::Misuse(line);
-        return Some(told::<CliFault, CliFault, ()>(to, Err(why)));
+        let outcome: Outcome<CliFault> = Err(NotDone::Misuse(line));
+        return Some(told(to, outcome));
     }
     let status = match name {
         CommandName::Check => told(to, check(rt, inner)),
@@ -199,11 +199,11 @@ fn perform(
     Some(status)
 }
 
-// Why a command with an office file is not run, if its files cannot go together.
-fn mistaken(rt: &HostRuntime, inner: &ArgMatches<'_>) -> Option<NotDone<CliFault>> {
+// How a command with an office file ends that is not run, since its files cannot go together.
+fn mistaken(rt: &HostRuntime, inner: &ArgMatches<'_>) -> Option<Outcome<CliFault>> {
     match misnamed(rt, rt.alloc(), inner) {
         Ok(None) => None,
-        Ok(Some(line)) => Some(NotDone::Misuse(line)),
-        Err(fault) => Some(NotDone::Fault(fault)),
+        Ok(Some(line)) => Some(Err(NotDone::Misuse(line))),
+        Err(fault) => Some(Err(NotDone::Fault(fault))),
     }
 }

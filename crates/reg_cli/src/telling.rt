@@ -1,13 +1,8 @@
 //! Standard error, where the end of a command is told.
 
-ghost use Rattle.std.specs.Prelude.{◌≡◌, ◌↔◌};
-ghost use Rattle.cli_outcome.specs.Outcome.{left_out_status, whole_status, done_status, exit_status, IsAllDone};
-ghost use Rattle.reg_cli.specs.Statuses.{plain_status};
-
 use clap::ArgMatches;
 use cli_exchange::faults::CommandFiles;
-use cli_look::desk::CliFault;
-use cli_outcome::{Done, NotDone, Outcome, ended};
+use cli_outcome::Teller;
 use std::fmt;
 
 /// Standard error, for a command with these arguments. The command's files are known if sentences are on.
@@ -45,75 +40,37 @@ pub trait SaidLast {
     fn say_last(&self, to: &StandardError<'_, '_>);
 }
 
-/// The exit status for a wrong command line.
-const MISUSE: u8 = 2;
+// The end of a command: `report` of `cli_outcome` decides what is told, and in which order.
+impl<F: Said, L: Said, B: SaidLast> Teller<F, L, B> for StandardError<'_, '_> {
+    ghost fault_status = { F.status };
 
-/// The exit status for a difference.
-const DIFFERS: u8 = 1;
+    ghost left_status = { L.status };
 
-// Tells that each of these was left out.
-fn tell_each<L: Said>(to: &StandardError<'_, '_>, left: &[L]) {
-    for one in left {
-        let _ = one.say(to);
+    ghost tells_fault = { λ old. λ fault. λ new. Unit {0} };
+
+    ghost tells_left = { λ old. λ left. λ new. Unit {0} };
+
+    ghost tells_brought = { λ old. λ brought. λ new. Unit {0} };
+
+    ghost tells_misuse = { λ old. λ line. λ new. Unit {0} };
+
+    fn fault(&mut self, fault: &F) -> u8 {
+        fault.say(self)
     }
-}
 
-// Tells what was left out, and returns the exit status of the first. None if nothing was.
-fn tell_left<L: Said>(to: &StandardError<'_, '_>, left: &[L]) -> Option<u8>
-    ensures { result ≡ left_out_status L.status left.now }
-{
-    let Some((first, others)) = left.split_first() else {
-        return None;
-    };
-    let status = first.say(to);
-    tell_each(to, others);
-    Some(status)
-}
-
-// The exit status of a command that left nothing out.
-fn whole_status(differs: bool) -> u8
-    ensures { result ≡ whole_status differs }
-{
-    if differs {
-        return DIFFERS;
+    fn left(&mut self, left: &L) -> u8 {
+        left.say(self)
     }
-    0
-}
 
-// Tells what a command did that is done, and returns its exit status.
-fn tell_done<L: Said, B: SaidLast>(to: &StandardError<'_, '_>, done: &Done<L, B>) -> u8
-    ensures { result ≡ done_status L.status done.now }
-{
-    let left = tell_left(to, &done.left);
-    done.brought.say_last(to);
-    match left {
-        Some(status) => status,
-        None => whole_status(done.differs),
+    fn brought(&mut self, brought: &B) {
+        brought.say_last(self);
     }
-}
 
-/// Tells how a command ended, and returns its exit status.
-pub fn told<F: Said + Drop, L: Said + Drop, B: SaidLast + Drop>(
-    to: &StandardError<'_, '_>,
-    outcome: Outcome<F, L, B>,
-) -> u8
-    ensures status { result ≡ exit_status F.status L.status outcome }
-    ensures zero { (result ≡ 0) ↔ IsAllDone outcome }
-{
-    match &outcome {
-        Ok(done) => tell_done(to, done),
-        Err(NotDone::Fault(fault)) => fault.say(to),
-        Err(NotDone::Misuse(line)) => {
-            to.line(line);
-            MISUSE
-        }
+    fn misuse(&mut self, line: &str) {
+        self.line(&line);
     }
-}
 
-/// The same for a command that is done or has a fault.
-pub fn told_plainly(to: &StandardError<'_, '_>, answer: Result<(), CliFault>) -> u8
-    ensures { result ≡ plain_status answer }
-{
-    let outcome = ended::<CliFault, CliFault>(to.rt.alloc(), answer);
-    told(to, outcome)
+    ghost fails = { F.is_no_success };
+
+    ghost lacks = { L.is_no_success };
 }

@@ -1,6 +1,6 @@
 //! The entries of a key.
 
-ghost use Rattle.std.specs.Prelude.{List, ◌≡◌, ◌++◌, ◌∷◌, [], true, false, IfOk};
+ghost use Rattle.std.specs.Prelude.{List, ◌≡◌, ◌++◌, ◌∷◌, [], true, false, IfOk, OnOk};
 ghost use Rattle.std.specs.Option.{ForSome};
 ghost use Rattle.reg_import.specs.declared.standing_entry.StandingEntry.{StandingEntry};
 ghost use Rattle.reg_import.specs.Imports.{least, any_entry};
@@ -58,6 +58,17 @@ fn or_summed(
     Ok(Some(summary))
 }
 
+// Most keys have one entry, so the first takes room for itself alone.
+fn push_entry(known: &mut Vec<StandingEntry>, entry: StandingEntry) -> Result<(), AllocError>
+    ensures { OnOk result (known.new.items ≡ known.old.items ++ entry ∷ []) }
+{
+    if known.is_empty() {
+        known.reserve_exact(1)?;
+    }
+    known.push(entry)?;
+    Ok(())
+}
+
 impl EntriesOfKey {
     /// No entries.
     pub fn empty(alloc: Global) -> EntriesOfKey
@@ -87,7 +98,7 @@ impl EntriesOfKey {
             summary,
         } = self;
         let summary = and_summed(alloc, summary, &entry)?;
-        known.push(entry)?;
+        push_entry(&mut known, entry)?;
         let summary = or_summed(alloc, summary, &known)?;
         Ok(EntriesOfKey {
             known,

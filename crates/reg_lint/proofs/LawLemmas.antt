@@ -8,7 +8,7 @@ use Rattle.wkt_crs.proofs.Texts.{one_value}
 use Rattle.reg_op.specs.Contents.{Content}
 use Rattle.reg_op.specs.Rows.{Row, rows}
 use Rattle.reg_report.proofs.ConflictLemmas.{none_in, in_cons, in_head, in_tail}
-use Rattle.reg_lint.specs.declared.subject.Subject.{Subject}
+use Rattle.reg_lint.specs.Subjects.{Subject}
 use Rattle.reg_lint.specs.Subjects.{is_retired, IsLiveOf, AreLive, AreLiveIn}
 use Rattle.reg_lint.specs.Laws.{IsLiveText, HaveSameTexts, Breaks, Tells, HasRow}
 

@@ -1,5 +1,6 @@
 mod EnteredLemmas
 mod LawLemmas
+mod KeptLemmas
 mod LiveLemmas
 mod MarkLemmas
 mod StepLemmas

@@ -25,7 +25,7 @@ use Rattle.reg_op.specs.Rows.{rows}
 use Rattle.reg_report.proofs.ConflictLemmas.{in_map, from_map}
 use Rattle.reg_lint.specs.declared.rule.AnyRule.{AnyRule}
 use Rattle.reg_lint.specs.declared.rule.AnyRule.TheVariants as any
-use Rattle.reg_lint.specs.declared.subject.Subject.{Subject}
+use Rattle.reg_lint.specs.Subjects.{Subject}
 use Rattle.reg_lint.specs.Details.{voice_of, names_in, told_beside, detail_of}
 use Rattle.reg_lint.specs.Laws.{live_texts, HaveSameTextsAsOften, HasRowBy}
 use Rattle.reg_lint.specs.Subjects.{authority_of, code_of, AreLiveIn}

@@ -15,7 +15,7 @@ use Rattle.reg_op.specs.Contents.{Content}
 use Rattle.reg_op.specs.Rows.{Row, rows}
 use Rattle.reg_lint.specs.declared.rule.AnyRule.{AnyRule}
 use Rattle.reg_lint.specs.declared.rule.AnyRule.TheVariants as any
-use Rattle.reg_lint.specs.declared.subject.Subject.{Subject}
+use Rattle.reg_lint.specs.Subjects.{Subject}
 use Rattle.reg_lint.specs.Details.{voice_of, names_in, wide_details, details}
 use Rattle.reg_lint.specs.Laws.{live_texts}
 use Rattle.reg_lint.specs.Subjects.{is_retired, authority_of, code_of, AreLive, AreLiveIn}

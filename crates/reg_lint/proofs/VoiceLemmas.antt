@@ -5,7 +5,7 @@ use Rattle.reg_sense.specs.declared.rule.WideRule.{WideRule}
 use Rattle.reg_sense.specs.declared.rule.WideRule.TheVariants as wide
 use Rattle.reg_sense.specs.Claimants.{Voice, voice}
 use Rattle.reg_sense.specs.Rules.{wide_told}
-use Rattle.reg_lint.specs.declared.subject.Subject.{Subject}
+use Rattle.reg_lint.specs.Subjects.{Subject}
 use Rattle.reg_lint.specs.Details.{voice_of, names_in, names_for, wide_details}
 
 pub map_twice : {X Y Z : Type 0} (f : Y → Z) (g : X → Y) (xs : List X) → map (λ x. f (g x)) xs ≡ map f (map g xs)

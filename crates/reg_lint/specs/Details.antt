@@ -1,6 +1,7 @@
 -- The sentence about each reference system that breaks a rule.
 use Rattle.std.specs.Prelude.{ℕ, List, [], map, Option, Some, None, if◌then◌else◌}
 use Rattle.std.specs.List.{flat_map}
+use Rattle.crs_part.specs.declared.crs.CrsParts.{CrsParts}
 use Rattle.crs_part.specs.Slots.{name_of, ids_of}
 use Rattle.crs_said.specs.References.{system_names}
 use Rattle.crs_sense.specs.declared.rule.Rule.{Rule}
@@ -12,19 +13,25 @@ use Rattle.reg_sense.specs.Claimants.{Voice}
 use Rattle.reg_sense.specs.Rules.{claims_of, wide_told}
 use Rattle.reg_lint.specs.declared.rule.AnyRule.{AnyRule}
 use Rattle.reg_lint.specs.declared.rule.AnyRule.TheVariants as any
-use Rattle.reg_lint.specs.declared.subject.Subject.{Subject}
+use Rattle.reg_lint.specs.Subjects.{Subject}
 use Rattle.reg_lint.specs.Subjects.{authority_of, code_of}
 
 -- the sentence of a reference system that breaks the rule
+abbrev pub told_in : Rule → CrsParts → Option (List ℕ)
+told_in rule crs = if breaks rule crs then Some (sentence rule crs) else None
+
 abbrev pub told : Rule → Subject → Option (List ℕ)
-told rule s = if breaks rule s.crs.parts then Some (sentence rule s.crs.parts) else None
+told rule s = told_in rule s.crs.parts
 
 abbrev pub own_details : Rule → List Subject → List (Option (List ℕ))
 own_details rule subjects = map (told rule) subjects
 
 -- its key, its name, and what it claims, as far as the rule asks
+abbrev pub voice_in : WideRule → CrsParts → Voice
+voice_in rule crs = record { authority = authority_of (ids_of crs); code = code_of (ids_of crs); name = (name_of crs).bytes; claims = claims_of rule crs }
+
 abbrev pub voice_of : WideRule → Subject → Voice
-voice_of rule s = record { authority = authority_of (ids_of s.crs.parts); code = code_of (ids_of s.crs.parts); name = (name_of s.crs.parts).bytes; claims = claims_of rule s.crs.parts }
+voice_of rule s = voice_in rule s.crs.parts
 
 -- the names of some reference systems, and of their parts
 abbrev pub names_in : List Subject → List (List ℕ)

@@ -3,7 +3,7 @@ use Rattle.std.specs.Prelude.{Bool, not, List, filter}
 use Rattle.reg_op.specs.Contents.{Content}
 use Rattle.reg_op.specs.Rows.{Row, rows}
 use Rattle.reg_op.specs.Status.{enters}
-use Rattle.reg_lint.specs.declared.subject.Subject.{Subject}
+use Rattle.reg_lint.specs.Subjects.{Subject}
 use Rattle.reg_lint.specs.Subjects.{AreLive}
 
 -- the row is of no entry of the content

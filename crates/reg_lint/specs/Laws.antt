@@ -7,7 +7,7 @@ use Rattle.crs_sense.specs.Rules.{breaks}
 use Rattle.wkt_crs.specs.Definition.{IsCrsOf}
 use Rattle.reg_op.specs.Contents.{Content}
 use Rattle.reg_op.specs.Rows.{Row, rows}
-use Rattle.reg_lint.specs.declared.subject.Subject.{Subject}
+use Rattle.reg_lint.specs.Subjects.{Subject}
 use Rattle.reg_lint.specs.declared.rule.AnyRule.{AnyRule}
 use Rattle.reg_lint.specs.Details.{detail_of}
 use Rattle.reg_lint.specs.Subjects.{is_retired, authority_of, code_of}

@@ -1,9 +1,10 @@
 -- The rows of what breaks rules: by rule, then in the order of what is looked at.
 use Rattle.std.specs.Prelude.{◌≡◌, ℕ, Bool, nat_lt, List, [], ◌∷◌, ◌++◌, length, Option, Some, None, codes, if◌then◌else◌}
 use Rattle.csv.specs.Writing.{row_text, default_writer}
+use Rattle.crs_part.specs.declared.crs.CrsParts.{CrsParts}
 use Rattle.crs_part.specs.Slots.{name_of, ids_of}
 use Rattle.reg_report.specs.Lines.{Sheet, sheet_text, IsReady}
-use Rattle.reg_lint.specs.declared.subject.Subject.{Subject}
+use Rattle.reg_lint.specs.Subjects.{Subject}
 use Rattle.reg_lint.specs.declared.rule.AnyRule.{AnyRule}
 use Rattle.reg_lint.specs.AnyRules.{any_name}
 use Rattle.reg_lint.specs.Subjects.{authority_of, code_of}
@@ -14,8 +15,11 @@ abbrev pub lint_header : List (List ℕ)
 lint_header = codes "rule" ∷ codes "entry" ∷ codes "authority" ∷ codes "code" ∷ codes "name" ∷ codes "detail" ∷ []
 
 -- the fields of a row
+abbrev pub fields_in : AnyRule → List ℕ → CrsParts → List ℕ → List (List ℕ)
+fields_in rule label crs detail = any_name rule ∷ label ∷ authority_of (ids_of crs) ∷ code_of (ids_of crs) ∷ (name_of crs).bytes ∷ detail ∷ []
+
 abbrev pub fields_of : AnyRule → Subject → List ℕ → List (List ℕ)
-fields_of rule s detail = any_name rule ∷ s.label.items ∷ authority_of (ids_of s.crs.parts) ∷ code_of (ids_of s.crs.parts) ∷ (name_of s.crs.parts).bytes ∷ detail ∷ []
+fields_of rule s detail = fields_in rule s.label s.crs.parts detail
 
 -- the row, unless its mark is known
 abbrev pub row_of : (List ℕ → Bool) → List (List ℕ) → List ℕ

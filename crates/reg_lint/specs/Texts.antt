@@ -7,7 +7,8 @@ use Rattle.wkt_crs.specs.Unspelled.{as_read}
 use Rattle.wkt_crs.specs.Spells.{Spells}
 use Rattle.wkt_crs.specs.Faults.{FirstFault}
 use Rattle.wkt_texts.specs.Texts.{IsCutInto}
-use Rattle.reg_lint.specs.declared.subject.Subject.{Subject}
+use Rattle.reg_lint.specs.declared.kept.KeptSubject.{KeptSubject}
+use Rattle.reg_lint.specs.Subjects.{Subject, IsKept}
 use Rattle.reg_lint.specs.declared.texts.Unread.{Unread}
 use Rattle.reg_lint.specs.declared.texts.Unread.TheVariants as why
 
@@ -17,16 +18,20 @@ label_of name place = name ++ (58 ∷ decimal place)
 
 -- the reference system that a text of the file spells
 abbrev pub IsTextSubject : List ℕ → Piece → Subject → Type 0
-IsTextSubject name c s = (s.label.items ≡ label_of name c.place) × Spells c.bytes s.crs
+IsTextSubject name c s = (s.label ≡ label_of name c.place) × Spells c.bytes s.crs
+
+-- what is kept of such a one
+abbrev pub IsTextKept : List ℕ → Piece → KeptSubject → Type 0
+IsTextKept name c k = (s : Subject) × IsTextSubject name c s × IsKept k s
 
 -- those of some texts come after the old ones, in order
-abbrev pub AreTextSubjects : List ℕ → List Piece → List Subject → List Subject → Type 0
-AreTextSubjects name [] old new = new ≡ old
-AreTextSubjects name (c ∷ cs) old new = (s : Subject) × IsTextSubject name c s × AreTextSubjects name cs (old ++ s ∷ []) new
+abbrev pub AreTextsKept : List ℕ → List Piece → List KeptSubject → List KeptSubject → Type 0
+AreTextsKept name [] old new = new ≡ old
+AreTextsKept name (c ∷ cs) old new = (k : KeptSubject) × IsTextKept name c k × AreTextsKept name cs (old ++ k ∷ []) new
 
 -- those of all texts of a file
-abbrev pub AreSubjectsOf : List ℕ → List ℕ → List Subject → List Subject → Type 0
-AreSubjectsOf name file old new = (cuts : List Piece) × IsCutInto file cuts × AreTextSubjects name cuts old new
+abbrev pub AreKeptOf : List ℕ → List ℕ → List KeptSubject → List KeptSubject → Type 0
+AreKeptOf name file old new = (cuts : List Piece) × IsCutInto file cuts × AreTextsKept name cuts old new
 
 -- the text spells no reference system, for this reason; or memory ran out
 abbrev pub IsUnread : Piece → Unread → Type 0

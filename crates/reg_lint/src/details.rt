@@ -1,16 +1,18 @@
 //! The sentence about each reference system that breaks a rule.
 
-ghost use Rattle.std.specs.Prelude.{◌≡◌, map, IfOk};
+ghost use Rattle.std.specs.Prelude.{◌≡◌, ◌↔◌, true, false, List, map, IsTrue, IfOk};
+ghost use Rattle.std.specs.List.{Contains};
 ghost use Rattle.crs_sense.specs.Rules.{breaks};
 ghost use Rattle.reg_sense.specs.Claimants.{detail_seen};
-ghost use Rattle.reg_lint.specs.declared.screened.Screened.{Screened};
-ghost use Rattle.reg_lint.specs.Details.{told, details, wide_details};
-ghost use Rattle.reg_lint.specs.Screening.{AreScreened};
+ghost use Rattle.reg_lint.specs.Details.{told_in, told, own_details, details, wide_details};
+ghost use Rattle.reg_lint.specs.Screening.{kept_in};
+ghost use Rattle.reg_lint.specs.Subjects.{Subject, IsKept, AreKept};
 
+use crate::kept::{KeptSubject, crs_of};
 use crate::rule::AnyRule;
 use crate::screened::Screened;
-use crate::subject::Subject;
 use crate::voices::{claimants_of, names_for};
+use crs_part::CrsParts;
 use crs_sense::Rule;
 use reg_sense::WideRule;
 use std::alloc::{AllocError, Global};
@@ -19,15 +21,15 @@ use std::alloc::{AllocError, Global};
 pub(crate) fn details(
     alloc: Global,
     rule: AnyRule,
-    subjects: &[Subject],
+    kept: &[KeptSubject],
     screened: &[Screened<'_>],
 ) -> Result<Vec<Option<Vec<u8>>>, AllocError>
-    requires { AreScreened subjects.now screened.now }
-    ensures { IfOk result (λ made. map detail_seen made.items ≡ details rule subjects.now) }
+    requires { map kept_in screened.now ≡ kept.now }
+    ensures { (ss : List Subject) → AreKept kept.now ss → IfOk result (λ made. map detail_seen made.items ≡ details rule ss) }
 {
     match rule {
         AnyRule::Own(rule) => own_details(alloc, rule, screened),
-        AnyRule::Wide(rule) => wide_details(alloc, rule, subjects),
+        AnyRule::Wide(rule) => wide_details(alloc, rule, kept),
     }
 }
 
@@ -36,44 +38,69 @@ fn own_details(
     rule: Rule,
     screened: &[Screened<'_>],
 ) -> Result<Vec<Option<Vec<u8>>>, AllocError>
-    ensures { IfOk result (λ made. map detail_seen made.items ≡ map (λ (x : Screened). told rule x.subject.now) screened.now) }
+    ensures { (ss : List Subject) → AreKept (map kept_in screened.now) ss → IfOk result (λ made. map detail_seen made.items ≡ own_details rule ss) }
 {
     let mut made = Vec::with_capacity(alloc, screened.len())?;
     for one in screened {
-        made.push(told(alloc, rule, one)?)?;
+        let detail = told(alloc, rule, one)?;
+        made.push(detail)?;
     }
     Ok(made)
 }
 
 fn told(alloc: Global, rule: Rule, one: &Screened<'_>) -> Result<Option<Vec<u8>>, AllocError>
-    ensures { IfOk result (λ detail. detail_seen detail ≡ told rule one.now.subject.now) }
+    ensures { (s : Subject) → IsKept one.now.kept.now s → IfOk result (λ detail. detail_seen detail ≡ told rule s) }
 {
-    if !breaks(rule, one) {
+    if passes(rule, one) {
         return Ok(None);
     }
-    let sentence = rule.sentence(alloc, one.subject.crs.parts())?;
-    Ok(Some(sentence))
+    let crs = crs_of(alloc, one.kept)?;
+    let detail = told_in(alloc, rule, crs.as_ref().parts())?;
+    Ok(detail)
 }
 
-// A clear one is not looked at again.
-fn breaks(rule: Rule, one: &Screened<'_>) -> bool
-    ensures { result ≡ breaks rule one.now.subject.now.crs.parts }
+// Whether a look has shown that it does not break the rule.
+fn passes(rule: Rule, one: &Screened<'_>) -> bool
+    ensures { result ≡ true → (s : Subject) → IsKept one.now.kept.now s → breaks rule s.crs.parts ≡ false }
 {
-    if one.clear {
+    if !one.looked {
         return false;
     }
-    rule.breaks(one.subject.crs.parts())
+    !is_among(rule, &one.broken)
+}
+
+fn is_among(rule: Rule, rules: &[Rule]) -> bool
+    ensures { IsTrue result ↔ Contains rules.now rule }
+{
+    let mut rest = rules;
+    while let Some((first, others)) = rest.split_first() {
+        if *first == rule {
+            return true;
+        }
+        rest = others;
+    }
+    false
+}
+
+fn told_in(alloc: Global, rule: Rule, crs: &CrsParts) -> Result<Option<Vec<u8>>, AllocError>
+    ensures { IfOk result (λ detail. detail_seen detail ≡ told_in rule crs.now) }
+{
+    if !rule.breaks(crs) {
+        return Ok(None);
+    }
+    let sentence = rule.sentence(alloc, crs)?;
+    Ok(Some(sentence))
 }
 
 fn wide_details(
     alloc: Global,
     rule: WideRule,
-    subjects: &[Subject],
+    kept: &[KeptSubject],
 ) -> Result<Vec<Option<Vec<u8>>>, AllocError>
-    ensures { IfOk result (λ made. map detail_seen made.items ≡ wide_details rule subjects.now) }
+    ensures { (ss : List Subject) → AreKept kept.now ss → IfOk result (λ made. map detail_seen made.items ≡ wide_details rule ss) }
 {
-    let names = names_for(alloc, rule, subjects)?;
-    let claimants = claimants_of(alloc, rule, subjects)?;
+    let names = names_for(alloc, rule, kept)?;
+    let claimants = claimants_of(alloc, rule, kept)?;
     let made = rule.told(alloc, &names, &claimants)?;
     Ok(made)
 }

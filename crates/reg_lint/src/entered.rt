@@ -1,28 +1,28 @@
 //! Entries that a register has gained.
 
-ghost use Rattle.std.specs.Prelude.{◌≡◌, filter, IfOk};
+ghost use Rattle.std.specs.Prelude.{◌≡◌, List, filter, IfOk};
 ghost use Rattle.reg_report.specs.Seen.{row_seen};
 ghost use Rattle.reg_lint.specs.Entered.{is_new, AreEntered};
+ghost use Rattle.reg_lint.specs.Subjects.{Subject, AreKept};
 
+use crate::kept::KeptSubject;
 use crate::live::live_of_rows;
-use crate::subject::Subject;
 use reg_report::{Row, is_entered, rows};
 use reg_state::Register;
 use std::alloc::{AllocError, Global};
 
-/// The entries that are not retired, and that the earlier register has not, by id, each with its reference system. Only their texts
-/// are read.
+/// What is kept of the entries that are not retired, and that the earlier register has not, by id. Only their texts are read.
 pub fn entered_subjects(
     alloc: Global,
     earlier: &Register,
     later: &Register,
-) -> Result<Vec<Subject>, AllocError>
-    ensures { IfOk result (λ subjects. AreEntered earlier.now later.now subjects.items) }
+) -> Result<Vec<KeptSubject>, AllocError>
+    ensures { IfOk result (λ kept. (subjects : List Subject) × AreEntered earlier.now later.now subjects × AreKept kept.items subjects) }
 {
     let mut rows = rows(alloc, later)?;
     keep_new(&mut rows, earlier);
-    let subjects = live_of_rows(alloc, rows)?;
-    Ok(subjects)
+    let kept = live_of_rows(alloc, rows)?;
+    Ok(kept)
 }
 
 fn keep_new(rows: &mut Vec<Row>, earlier: &Register)

@@ -4,12 +4,11 @@ ghost use Rattle.std.specs.Prelude.{◌≡◌, ◌↔◌, ℕ, List, map, Contai
 ghost use Rattle.crs_sense.specs.declared.rule.Rule.{Rule};
 ghost use Rattle.wkt_crs.specs.Definition.{IsCrsOf};
 ghost use Rattle.reg_op.specs.Contents.{Content};
-ghost use Rattle.reg_lint.specs.declared.subject.Subject.{Subject};
 ghost use Rattle.reg_lint.specs.declared.rule.AnyRule.{AnyRule};
 ghost use Rattle.reg_lint.specs.declared.rule.TheConstants.{ANY_RULES};
 ghost use Rattle.reg_lint.specs.AnyRules.{any_name, any_listed, ascend};
 ghost use Rattle.reg_lint.specs.Details.{detail_of, details};
-ghost use Rattle.reg_lint.specs.Subjects.{AreLiveIn};
+ghost use Rattle.reg_lint.specs.Subjects.{Subject, AreLiveIn};
 ghost use Rattle.reg_lint.specs.Laws.{HaveSameTexts, HaveSameTextsAsOften, Tells, HasRow, HasRowBy, live_texts};
 
 /// There is a row of a rule about one system with a key exactly if the text of an entry that is not retired has the key and breaks the rule.

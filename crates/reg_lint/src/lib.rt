@@ -4,6 +4,8 @@
 mod asked;
 mod details;
 mod entered;
+mod kept;
+mod keys;
 mod known;
 pub mod laws;
 mod lines;
@@ -12,17 +14,16 @@ mod marks;
 mod rule;
 mod screened;
 mod screening;
-mod subject;
 mod texts;
 mod voices;
 
 pub use asked::questions;
 pub use crs_sense::Rule;
 pub use entered::entered_subjects;
+pub use kept::{KeptForm, KeptSubject};
 pub use known::{Known, known_rows};
 pub use lines::{has_rows, lint_text};
 pub use live::live_subjects;
 pub use reg_sense::WideRule;
 pub use rule::{ANY_RULES, AnyRule};
-pub use subject::Subject;
 pub use texts::{Unread, push_texts};

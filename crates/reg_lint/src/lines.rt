@@ -1,19 +1,22 @@
 //! The rows of what breaks rules.
 
-ghost use Rattle.std.specs.Prelude.{◌≡◌, map, IfOk, OnOk};
+ghost use Rattle.std.specs.Prelude.{◌≡◌, List, map, IfOk, OnOk};
 ghost use Rattle.reg_report.specs.Lines.{IsReady, WritesRow};
 ghost use Rattle.reg_sense.specs.Claimants.{detail_seen};
 ghost use Rattle.reg_lint.specs.Known.{has_mark};
-ghost use Rattle.reg_lint.specs.Screening.{AreScreened};
-ghost use Rattle.reg_lint.specs.Lines.{lint_header, row_of, line_of, lines_of, all_lines, lint_sheet, has_rows, fields_of, Writes};
+ghost use Rattle.reg_lint.specs.Screening.{kept_in};
+ghost use Rattle.reg_lint.specs.Subjects.{Subject, IsKept, AreKept};
+ghost use Rattle.reg_lint.specs.Lines.{lint_header, row_of, line_of, lines_of, all_lines, lint_sheet, has_rows, fields_in, fields_of, Writes};
 
 use crate::details::details;
+use crate::kept::{KeptSubject, crs_of};
+use crate::keys::{authority_of, code_of, copied};
 use crate::known::Known;
 use crate::marks::mark_of;
 use crate::rule::AnyRule;
 use crate::screened::Screened;
 use crate::screening::looked_at;
-use crate::subject::{Subject, authority_of, code_of, copied};
+use crs_value::Crs;
 use csv::Writer;
 use reg_report::write_fields;
 use std::alloc::{AllocError, Global};
@@ -26,14 +29,14 @@ pub fn lint_text(
     alloc: Global,
     known: &Known,
     rules: &[AnyRule],
-    subjects: &[Subject],
+    kept: &[KeptSubject],
 ) -> Result<Vec<u8>, AllocError>
-    ensures { IfOk result (λ text. text.items ≡ lint_sheet (has_mark known.now) rules.now subjects.now) }
+    ensures { (subjects : List Subject) → AreKept kept.now subjects → IfOk result (λ text. text.items ≡ lint_sheet (has_mark known.now) rules.now subjects) }
 {
-    let screened = looked_at(alloc, rules.len(), subjects)?;
+    let screened = looked_at(alloc, rules.len(), kept)?;
     let mut wtr = Writer::from_writer(Vec::new(alloc));
     write_header(&mut wtr)?;
-    write_all_lines(alloc, &mut wtr, known, rules, subjects, &screened)?;
+    write_all_lines(alloc, &mut wtr, known, rules, kept, &screened)?;
     match wtr.into_inner() {
         Ok(text) => Ok(text),
         Err(_) => Err(AllocError),
@@ -63,17 +66,17 @@ fn write_all_lines(
     wtr: &mut Writer<Vec<u8>>,
     known: &Known,
     rules: &[AnyRule],
-    subjects: &[Subject],
+    kept: &[KeptSubject],
     screened: &[Screened<'_>],
 ) -> Result<(), AllocError>
     requires ready { IsReady wtr.old }
-    requires looked { AreScreened subjects.now screened.now }
-    ensures { OnOk result (Writes wtr.old wtr.new (all_lines (has_mark known.now) rules.now subjects.now)) }
+    requires looked { map kept_in screened.now ≡ kept.now }
+    ensures { (ss : List Subject) → AreKept kept.now ss → OnOk result (Writes wtr.old wtr.new (all_lines (has_mark known.now) rules.now ss)) }
 {
     let mut rest = rules;
     while let Some((rule, others)) = rest.split_first() {
-        let found = details(alloc, *rule, subjects, screened)?;
-        write_lines(alloc, wtr, known, *rule, subjects, &found)?;
+        let found = details(alloc, *rule, kept, screened)?;
+        write_lines(alloc, wtr, known, *rule, kept, &found)?;
         rest = others;
     }
     Ok(())
@@ -85,19 +88,20 @@ fn write_lines(
     wtr: &mut Writer<Vec<u8>>,
     known: &Known,
     rule: AnyRule,
-    subjects: &[Subject],
+    kept: &[KeptSubject],
     found: &[Option<Vec<u8>>],
 ) -> Result<(), AllocError>
     requires { IsReady wtr.old }
-    ensures { OnOk result (Writes wtr.old wtr.new (lines_of (has_mark known.now) rule subjects.now (map detail_seen found.now))) }
+    ensures ready { OnOk result (IsReady wtr.new) }
+    ensures rows { (ss : List Subject) → AreKept kept.now ss → OnOk result (Writes wtr.old wtr.new (lines_of (has_mark known.now) rule ss (map detail_seen found.now))) }
 {
-    let mut left = subjects;
+    let mut left = kept;
     let mut rest = found;
-    while let (Some((subject, later)), Some((detail, others))) = (
+    while let (Some((one, later)), Some((detail, others))) = (
         left.split_first(),
         rest.split_first(),
     ) {
-        write_line(alloc, wtr, known, rule, subject, detail)?;
+        write_line(alloc, wtr, known, rule, one, detail)?;
         left = later;
         rest = others;
     }
@@ -109,14 +113,15 @@ fn write_line(
     wtr: &mut Writer<Vec<u8>>,
     known: &Known,
     rule: AnyRule,
-    subject: &Subject,
+    kept: &KeptSubject,
     detail: &Option<Vec<u8>>,
 ) -> Result<(), AllocError>
     requires { IsReady wtr.old }
-    ensures { OnOk result (Writes wtr.old wtr.new (line_of (has_mark known.now) rule subject.now (detail_seen detail.now))) }
+    ensures ready { OnOk result (IsReady wtr.new) }
+    ensures row { (s : Subject) → IsKept kept.now s → OnOk result (Writes wtr.old wtr.new (line_of (has_mark known.now) rule s (detail_seen detail.now))) }
 {
     match detail {
-        Some(detail) => write_found(alloc, wtr, known, rule, subject, detail),
+        Some(detail) => write_found(alloc, wtr, known, rule, kept, detail),
         None => Ok(()),
     }
 }
@@ -126,14 +131,32 @@ fn write_found(
     wtr: &mut Writer<Vec<u8>>,
     known: &Known,
     rule: AnyRule,
-    subject: &Subject,
+    kept: &KeptSubject,
     detail: &[u8],
 ) -> Result<(), AllocError>
     requires { IsReady wtr.old }
-    ensures { OnOk result (Writes wtr.old wtr.new (row_of (has_mark known.now) (fields_of rule subject.now detail.now))) }
+    ensures ready { OnOk result (IsReady wtr.new) }
+    ensures row { (s : Subject) → IsKept kept.now s → OnOk result (Writes wtr.old wtr.new (row_of (has_mark known.now) (fields_of rule s detail.now))) }
+{
+    let crs = crs_of(alloc, kept)?;
+    write_told(alloc, wtr, known, rule, &kept.label, crs.as_ref(), detail)
+}
+
+fn write_told(
+    alloc: Global,
+    wtr: &mut Writer<Vec<u8>>,
+    known: &Known,
+    rule: AnyRule,
+    label: &[u8],
+    crs: &Crs,
+    detail: &[u8],
+) -> Result<(), AllocError>
+    requires { IsReady wtr.old }
+    ensures { OnOk result (Writes wtr.old wtr.new (row_of (has_mark known.now) (fields_in rule label.now crs.now.parts detail.now))) }
 {
     let rule = copied(alloc, rule.name().as_bytes())?;
-    let code = code_of(alloc, &subject.crs)?;
+    let label = copied(alloc, label)?;
+    let code = code_of(alloc, crs)?;
     let detail = copied(alloc, detail)?;
     write_unless_known(
         alloc,
@@ -141,10 +164,10 @@ fn write_found(
         known,
         &[
             &rule,
-            &subject.label,
-            authority_of(&subject.crs),
+            &label,
+            authority_of(crs),
             &code,
-            subject.crs.parts().name().as_bytes(),
+            crs.parts().name().as_bytes(),
             &detail,
         ],
     )

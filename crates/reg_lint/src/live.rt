@@ -1,56 +1,56 @@
 //! Entries of a register that are not retired.
 
-ghost use Rattle.std.specs.Prelude.{◌≡◌, ◌++◌, [], map, Some, IfOk, OnOk};
+ghost use Rattle.std.specs.Prelude.{◌≡◌, ◌++◌, List, [], map, Some, IfOk, OnOk};
 ghost use Rattle.std.specs.List.{cons_option};
 ghost use Rattle.reg_report.specs.Seen.{row_seen};
-ghost use Rattle.reg_lint.specs.Subjects.{is_retired, IsLiveOf, AreLive, AreLiveIn};
+ghost use Rattle.reg_lint.specs.Subjects.{Subject, is_retired, IsLiveKept, AreLiveKept, AreLiveIn, AreKept};
 
-use crate::subject::Subject;
+use crate::kept::{KeptSubject, form_of_entry};
 use reg_op::Status;
 use reg_report::{Row, printed, rows};
 use reg_state::Register;
 use std::alloc::{AllocError, Global};
 
-/// The entries that are not retired, by id, each with its reference system. Each text is read once.
-pub fn live_subjects(alloc: Global, register: &Register) -> Result<Vec<Subject>, AllocError>
-    ensures { IfOk result (λ subjects. AreLiveIn register.now subjects.items) }
+/// What is kept of the entries that are not retired, by id.
+pub fn live_subjects(alloc: Global, register: &Register) -> Result<Vec<KeptSubject>, AllocError>
+    ensures { IfOk result (λ kept. (subjects : List Subject) × AreLiveIn register.now subjects × AreKept kept.items subjects) }
 {
     let rows = rows(alloc, register)?;
-    let subjects = live_of_rows(alloc, rows)?;
-    Ok(subjects)
+    let kept = live_of_rows(alloc, rows)?;
+    Ok(kept)
 }
 
-/// The entries of these rows that are not retired, in order.
-pub(crate) fn live_of_rows(alloc: Global, rows: Vec<Row>) -> Result<Vec<Subject>, AllocError>
-    ensures { IfOk result (λ subjects. AreLive (map row_seen rows.items) subjects.items) }
+/// What is kept of the entries of these rows that are not retired, in order.
+pub(crate) fn live_of_rows(alloc: Global, rows: Vec<Row>) -> Result<Vec<KeptSubject>, AllocError>
+    ensures { IfOk result (λ kept. AreLiveKept (map row_seen rows.items) kept.items) }
 {
-    let mut subjects = Vec::with_capacity(alloc, rows.len())?;
+    let mut kept = Vec::with_capacity(alloc, rows.len())?;
     for row in rows {
         let live = live_of(alloc, &row)?;
-        push_some(&mut subjects, live)?;
+        push_some(&mut kept, live)?;
     }
-    Ok(subjects)
+    Ok(kept)
 }
 
-fn push_some(subjects: &mut Vec<Subject>, live: Option<Subject>) -> Result<(), AllocError>
-    ensures { OnOk result (subjects.new.items ≡ subjects.old.items ++ cons_option live []) }
+fn push_some(kept: &mut Vec<KeptSubject>, live: Option<KeptSubject>) -> Result<(), AllocError>
+    ensures { OnOk result (kept.new.items ≡ kept.old.items ++ cons_option live []) }
 {
     if let Some(live) = live {
-        subjects.push(live)?;
+        kept.push(live)?;
     }
     Ok(())
 }
 
-// The entry of a row with its reference system, unless it is retired.
-fn live_of(alloc: Global, row: &Row) -> Result<Option<Subject>, AllocError>
-    ensures { IfOk result (IsLiveOf (row_seen row.now)) }
+// What is kept of the entry of a row, unless it is retired.
+fn live_of(alloc: Global, row: &Row) -> Result<Option<KeptSubject>, AllocError>
+    ensures { IfOk result (IsLiveKept (row_seen row.now)) }
 {
     if is_retired(row.status) {
         return Ok(None);
     }
     let label = printed(alloc, row.entry)?;
-    let crs = row.definition.crs(alloc)?;
-    Ok(Some(Subject { label, crs }))
+    let form = form_of_entry(alloc, &row.definition)?;
+    Ok(Some(KeptSubject { label, form }))
 }
 
 fn is_retired(status: Status) -> bool

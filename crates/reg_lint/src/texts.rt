@@ -3,10 +3,10 @@
 ghost use Rattle.std.specs.Prelude.{◌≡◌, ◌++◌, ◌∷◌, [], IfOk, IfErr, OnOk, map};
 ghost use Rattle.wkt_crs.specs.Spells.{Spells};
 ghost use Rattle.wkt_texts.specs.Texts.{piece_of};
-ghost use Rattle.reg_lint.specs.declared.subject.Subject.{Subject};
-ghost use Rattle.reg_lint.specs.Texts.{label_of, IsTextSubject, AreTextSubjects, AreSubjectsOf, IsUnread, IsFirstUnread, IsFileUnread, why_of};
+ghost use Rattle.reg_lint.specs.declared.kept.KeptSubject.{KeptSubject as OneKept};
+ghost use Rattle.reg_lint.specs.Texts.{label_of, IsTextKept, AreTextsKept, AreKeptOf, IsUnread, IsFirstUnread, IsFileUnread, why_of};
 
-use crate::subject::Subject;
+use crate::kept::{KeptSubject, form_of_text};
 use crs_value::Crs;
 use itoa::Buffer;
 use std::alloc::{AllocError, Global};
@@ -27,20 +27,20 @@ pub enum Unread {
     Memory,
 }
 
-/// Appends the reference systems of a file's texts, in order. Each is named by the file and the offset of its text.
+/// Appends what is kept of a file's texts, in order. Each is named by the file and the offset of its text.
 pub fn push_texts(
     alloc: Global,
-    subjects: &mut Vec<Subject>,
+    kept: &mut Vec<KeptSubject>,
     name: &[u8],
     file: &[u8],
 ) -> Result<(), Unread>
-    ensures ok { OnOk result (AreSubjectsOf name.now file.now subjects.old.items subjects.new.items) }
+    ensures ok { OnOk result (AreKeptOf name.now file.now kept.old.items kept.new.items) }
     ensures fault { IfErr result (IsFileUnread file.now) }
 {
     let Ok(cuts) = texts(alloc, file) else {
         return Err(Unread::Memory);
     };
-    match push_cuts(alloc, subjects, name, &cuts) {
+    match push_cuts(alloc, kept, name, &cuts) {
         Ok(()) => Ok(()),
         Err(why) => Err(why),
     }
@@ -48,40 +48,40 @@ pub fn push_texts(
 
 fn push_cuts(
     alloc: Global,
-    subjects: &mut Vec<Subject>,
+    kept: &mut Vec<KeptSubject>,
     name: &[u8],
     cuts: &[Cut<'_>],
 ) -> Result<(), Unread>
-    ensures ok { OnOk result (AreTextSubjects name.now (map piece_of cuts.now) subjects.old.items subjects.new.items) }
+    ensures ok { OnOk result (AreTextsKept name.now (map piece_of cuts.now) kept.old.items kept.new.items) }
     ensures fault { IfErr result (IsFirstUnread (map piece_of cuts.now)) }
 {
     for cut in cuts {
-        push_text(alloc, subjects, name, cut)?;
+        push_text(alloc, kept, name, cut)?;
     }
     Ok(())
 }
 
 fn push_text(
     alloc: Global,
-    subjects: &mut Vec<Subject>,
+    kept: &mut Vec<KeptSubject>,
     name: &[u8],
     cut: &Cut<'_>,
 ) -> Result<(), Unread>
-    ensures ok { OnOk result ((s : Subject) × IsTextSubject name.now (piece_of cut.now) s × (subjects.new.items ≡ subjects.old.items ++ s ∷ [])) }
+    ensures ok { OnOk result ((k : OneKept) × IsTextKept name.now (piece_of cut.now) k × (kept.new.items ≡ kept.old.items ++ k ∷ [])) }
     ensures fault { IfErr result (IsUnread (piece_of cut.now)) }
 {
-    let subject = match subject_at(alloc, name, cut) {
-        Ok(subject) => subject,
+    let one = match kept_at(alloc, name, cut) {
+        Ok(one) => one,
         Err(why) => return Err(why),
     };
-    match subjects.push(subject) {
+    match kept.push(one) {
         Ok(()) => Ok(()),
         Err(_) => Err(Unread::Memory),
     }
 }
 
-fn subject_at(alloc: Global, name: &[u8], cut: &Cut<'_>) -> Result<Subject, Unread>
-    ensures ok { IfOk result (IsTextSubject name.now (piece_of cut.now)) }
+fn kept_at(alloc: Global, name: &[u8], cut: &Cut<'_>) -> Result<KeptSubject, Unread>
+    ensures ok { IfOk result (IsTextKept name.now (piece_of cut.now)) }
     ensures fault { IfErr result (IsUnread (piece_of cut.now)) }
 {
     let crs = match read_at(alloc, cut) {
@@ -91,7 +91,10 @@ fn subject_at(alloc: Global, name: &[u8], cut: &Cut<'_>) -> Result<Subject, Unre
     let Ok(label) = label_of(alloc, name, cut.place) else {
         return Err(Unread::Memory);
     };
-    Ok(Subject { label, crs })
+    let Ok(form) = form_of_text(alloc, cut.bytes, crs) else {
+        return Err(Unread::Memory);
+    };
+    Ok(KeptSubject { label, form })
 }
 
 fn read_at(alloc: Global, cut: &Cut<'_>) -> Result<Crs, Unread>

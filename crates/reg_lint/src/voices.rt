@@ -1,22 +1,34 @@
 //! What reference systems claim beside each other.
 
-ghost use Rattle.std.specs.Prelude.{◌≡◌, ◌++◌, ℕ, map, IfOk, OnOk};
+ghost use Rattle.std.specs.Prelude.{◌≡◌, ◌++◌, ℕ, List, map, IfOk, OnOk};
 ghost use Rattle.std.specs.Global.{Vec};
+ghost use Rattle.crs_said.specs.References.{system_names};
 ghost use Rattle.reg_sense.specs.Claimants.{voice};
-ghost use Rattle.reg_lint.specs.Details.{voice_of, names_in, names_for};
+ghost use Rattle.reg_lint.specs.Details.{voice_in, voice_of, names_in, names_for};
+ghost use Rattle.reg_lint.specs.Subjects.{Subject, IsKept, AreKept};
 
-use crate::subject::{Subject, authority_of, code_of, copied};
+use crate::kept::{KeptSubject, crs_of};
+use crate::keys::{authority_of, code_of, copied};
 use crs_said::system_names;
+use crs_value::Crs;
 use reg_sense::{Claimant, WideRule};
 use std::alloc::{AllocError, Global};
 
-fn claimant_of(alloc: Global, rule: WideRule, subject: &Subject) -> Result<Claimant, AllocError>
-    ensures { IfOk result (λ made. voice made ≡ voice_of rule subject.now) }
+fn claimant_of(alloc: Global, rule: WideRule, kept: &KeptSubject) -> Result<Claimant, AllocError>
+    ensures { (s : Subject) → IsKept kept.now s → IfOk result (λ made. voice made ≡ voice_of rule s) }
 {
-    let authority = copied(alloc, authority_of(&subject.crs))?;
-    let code = code_of(alloc, &subject.crs)?;
-    let name = copied(alloc, subject.crs.parts().name().as_bytes())?;
-    let claims = rule.claims(alloc, subject.crs.parts())?;
+    let crs = crs_of(alloc, kept)?;
+    let made = claimant_in(alloc, rule, crs.as_ref())?;
+    Ok(made)
+}
+
+fn claimant_in(alloc: Global, rule: WideRule, crs: &Crs) -> Result<Claimant, AllocError>
+    ensures { IfOk result (λ made. voice made ≡ voice_in rule crs.now.parts) }
+{
+    let authority = copied(alloc, authority_of(crs))?;
+    let code = code_of(alloc, crs)?;
+    let name = copied(alloc, crs.parts().name().as_bytes())?;
+    let claims = rule.claims(alloc, crs.parts())?;
     Ok(Claimant {
         authority,
         code,
@@ -29,13 +41,16 @@ fn claimant_of(alloc: Global, rule: WideRule, subject: &Subject) -> Result<Claim
 pub(crate) fn claimants_of(
     alloc: Global,
     rule: WideRule,
-    subjects: &[Subject],
+    kept: &[KeptSubject],
 ) -> Result<Vec<Claimant>, AllocError>
-    ensures { IfOk result (λ made. map voice made.items ≡ map (voice_of rule) subjects.now) }
+    ensures { (ss : List Subject) → AreKept kept.now ss → IfOk result (λ made. map voice made.items ≡ map (voice_of rule) ss) }
 {
-    let mut made = Vec::with_capacity(alloc, subjects.len())?;
-    for subject in subjects {
-        made.push(claimant_of(alloc, rule, subject)?)?;
+    let mut made = Vec::with_capacity(alloc, kept.len())?;
+    let mut rest = kept;
+    while let Some((one, others)) = rest.split_first() {
+        let claimant = claimant_of(alloc, rule, one)?;
+        made.push(claimant)?;
+        rest = others;
     }
     Ok(made)
 }
@@ -53,28 +68,38 @@ fn push_names(names: &mut Vec<Vec<u8>>, more: Vec<Vec<u8>>) -> Result<(), AllocE
 pub(crate) fn names_for(
     alloc: Global,
     rule: WideRule,
-    subjects: &[Subject],
+    kept: &[KeptSubject],
 ) -> Result<Vec<Vec<u8>>, AllocError>
-    ensures { IfOk result (λ made. map (λ (name : Vec ℕ). name.items) made.items ≡ names_for rule subjects.now) }
+    ensures { (ss : List Subject) → AreKept kept.now ss → IfOk result (λ made. map (λ (name : Vec ℕ). name.items) made.items ≡ names_for rule ss) }
 {
     match rule {
         WideRule::Case => Ok(Vec::new(alloc)),
         WideRule::Datum => Ok(Vec::new(alloc)),
         WideRule::Parts => Ok(Vec::new(alloc)),
-        WideRule::RefName => names_of(alloc, subjects),
+        WideRule::RefName => names_of(alloc, kept),
         WideRule::SameName => Ok(Vec::new(alloc)),
         WideRule::Twin => Ok(Vec::new(alloc)),
     }
 }
 
 // The names of all of these, and of their parts.
-fn names_of(alloc: Global, subjects: &[Subject]) -> Result<Vec<Vec<u8>>, AllocError>
-    ensures { IfOk result (λ made. map (λ (name : Vec ℕ). name.items) made.items ≡ names_in subjects.now) }
+fn names_of(alloc: Global, kept: &[KeptSubject]) -> Result<Vec<Vec<u8>>, AllocError>
+    ensures { (ss : List Subject) → AreKept kept.now ss → IfOk result (λ made. map (λ (name : Vec ℕ). name.items) made.items ≡ names_in ss) }
 {
-    let mut made = Vec::with_capacity(alloc, subjects.len())?;
-    for subject in subjects {
-        let names = system_names(alloc, subject.crs.parts())?;
+    let mut made = Vec::with_capacity(alloc, kept.len())?;
+    let mut rest = kept;
+    while let Some((one, others)) = rest.split_first() {
+        let names = names_by(alloc, one)?;
         push_names(&mut made, names)?;
+        rest = others;
     }
     Ok(made)
+}
+
+fn names_by(alloc: Global, kept: &KeptSubject) -> Result<Vec<Vec<u8>>, AllocError>
+    ensures { (s : Subject) → IsKept kept.now s → IfOk result (λ made. map (λ (name : Vec ℕ). name.items) made.items ≡ system_names s.crs.parts) }
+{
+    let crs = crs_of(alloc, kept)?;
+    let names = system_names(alloc, crs.as_ref().parts())?;
+    Ok(names)
 }

@@ -1,3 +1,6 @@
 pub mod LineLemmas
+mod SharedLemmas
+mod TableLemmas
+mod ChoiceLemmas
 mod StepLemmas
 mod HunkLemmas

@@ -1,3 +1,4 @@
 pub mod Lines
 pub mod Sides
+pub mod Shared
 pub mod Hunks

@@ -3,4 +3,4 @@ use Rattle.reg_lint.specs.Lines.{lint_sheet}
 use Rattle.desk_lint.proofs.entered.all_rows.Goals as goal
 
 pub returns : goal.returns
-returns c = c.in_ok-text.ensures ∙ (λ j. lint_sheet (λ mark. c.none-known.ensures mark j) c.args.rules.now c.args.subjects.now)
+returns c = λ ss are. c.in_ok-text.ensures ss are ∙ (λ j. lint_sheet (λ mark. c.none-known.ensures mark j) c.args.rules.now ss)

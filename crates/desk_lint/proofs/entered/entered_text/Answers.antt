@@ -1,13 +1,13 @@
-use Rattle.std.proofs.Common.{◌≡◌, List, ap, false, subst, ◌∙◌}
-use Rattle.reg_lint.specs.declared.subject.Subject.{Subject}
-use Rattle.reg_lint.specs.Lines.{lint_sheet}
+use Rattle.std.proofs.Common.{List, sym, ap, subst, ◌∙◌}
+use Rattle.reg_lint.specs.declared.kept.KeptSubject.{KeptSubject}
+use Rattle.reg_lint.specs.Subjects.{AreKept}
 use Rattle.desk_lint.specs.Entered.{if_rows}
 use Rattle.desk_lint.proofs.entered.entered_text.Goals as goal
 
 pub returns : goal.returns
-returns c = (
-  c.in_ok-subjects.subjects.items,
-  c.in_ok-subjects.ensures,
-  c.if_rows.ensures
-      ∙ ap if_rows (subst (λ (ss : List Subject). c.in_ok-text.text.items ≡ lint_sheet (λ mark. false) c.args.rules.now ss) c.deref.ensures.value c.in_ok-text.ensures),
-)
+returns c =
+    let new = c.in_ok-kept.ensures in (
+      new.0,
+      new.1,
+      c.if_rows.ensures ∙ ap if_rows (c.in_ok-text.ensures new.0 (subst (λ (ks : List KeptSubject). AreKept ks new.0) (sym c.deref.ensures.value) new.2)),
+    )

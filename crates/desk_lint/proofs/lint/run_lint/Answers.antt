@@ -1,32 +1,33 @@
-use Rattle.std.proofs.Common.{ℕ, List, refl, inl, inr, subst}
-use Rattle.reg_lint.specs.declared.subject.Subject.{Subject}
-use Rattle.desk_lint.specs.Lint.{AreLinted, AreUnlinted}
+use Rattle.std.proofs.Common.{ℕ, List, refl, sym, inl, inr, subst}
+use Rattle.reg_lint.specs.declared.kept.KeptSubject.{KeptSubject}
+use Rattle.reg_lint.specs.Subjects.{AreKept}
+use Rattle.desk_lint.specs.Lint.{AreUnlinted}
 use Rattle.desk_lint.proofs.lint.run_lint.Goals as goal
 
 pub returns-in-Err-live_subjects-clause-fault : goal.returns-in-Err-live_subjects-clause-fault
 returns-in-Err-live_subjects-clause-fault g c = inr (c.in-Ok.register, c.in-Ok.ensures.came, inl (refl, refl, refl))
 
-pub returns-in-Ok-run_lint_subjects-clause-printed : goal.returns-in-Ok-run_lint_subjects-clause-printed
-returns-in-Ok-run_lint_subjects-clause-printed g c = (
-  c.in-Ok.register,
-  c.in-Ok-live_subjects.subjects.items,
-  c.in-Ok.ensures.came,
-  c.in-Ok-live_subjects.ensures,
-  subst (λ (ss : List Subject). AreLinted c.args.rules.now ss (g.S.Source.state c.args.known.now) (g.S.Source.state c.run_lint_subjects.new.known) (g.K.Sink.state c.args.sink.now) (g.K.Sink.state c.run_lint_subjects.new.sink) c.in-Ok-run_lint_subjects.any)
-      c.deref.ensures.value c.in-Ok-run_lint_subjects.ensures.printed,
-)
+pub returns-in-Ok-run_lint_kept-clause-printed : goal.returns-in-Ok-run_lint_kept-clause-printed
+returns-in-Ok-run_lint_kept-clause-printed g c =
+    let live = c.in-Ok-live_subjects.ensures in (
+      c.in-Ok.register,
+      live.0,
+      c.in-Ok.ensures.came,
+      live.1,
+      c.in-Ok-run_lint_kept.ensures.printed live.0 (subst (λ (ks : List KeptSubject). AreKept ks live.0) (sym c.deref.ensures.value) live.2),
+    )
 
-pub returns-in-Err-run_lint_subjects-clause-fault : goal.returns-in-Err-run_lint_subjects-clause-fault
-returns-in-Err-run_lint_subjects-clause-fault g c =
+pub returns-in-Err-run_lint_kept-clause-fault : goal.returns-in-Err-run_lint_kept-clause-fault
+returns-in-Err-run_lint_kept-clause-fault g c =
+    let live = c.in-Ok-live_subjects.ensures in
     inr (
       c.in-Ok.register,
       c.in-Ok.ensures.came,
       inr (
-        c.in-Ok-live_subjects.subjects.items,
-        c.in-Ok-live_subjects.ensures,
-        subst (λ (k : ℕ). AreUnlinted c.args.rules.now c.in-Ok-live_subjects.subjects.items k (g.S.Source.state c.args.known.now) (g.S.Source.state c.run_lint_subjects.new.known) (g.K.Sink.state c.args.sink.now) (g.K.Sink.state c.run_lint_subjects.new.sink) c.in-Err-run_lint_subjects.fault)
+        live.0,
+        live.1,
+        subst (λ (k : ℕ). AreUnlinted c.args.rules.now live.0 k (g.S.Source.state c.args.known.now) (g.S.Source.state c.run_lint_kept.new.known) (g.K.Sink.state c.args.sink.now) (g.K.Sink.state c.run_lint_kept.new.sink) c.in-Err-run_lint_kept.fault)
             c.next-next.ensures
-            (subst (λ (ss : List Subject). AreUnlinted c.args.rules.now ss c.next-next.result (g.S.Source.state c.args.known.now) (g.S.Source.state c.run_lint_subjects.new.known) (g.K.Sink.state c.args.sink.now) (g.K.Sink.state c.run_lint_subjects.new.sink) c.in-Err-run_lint_subjects.fault)
-            c.deref.ensures.value c.in-Err-run_lint_subjects.ensures.fault),
+            (c.in-Err-run_lint_kept.ensures.fault live.0 (subst (λ (ks : List KeptSubject). AreKept ks live.0) (sym c.deref.ensures.value) live.2)),
       ),
     )

@@ -1,6 +1,6 @@
-use Rattle.std.proofs.Common.{sym, subst}
-use Rattle.reg_lint.specs.Screening.{AreScreened}
+use Rattle.std.proofs.Common.{map, ap, ◌∙◌}
+use Rattle.reg_lint.specs.Screening.{kept_in}
 use Rattle.reg_lint.proofs.lines.lint_text.Goals as goal
 
 pub write_all_lines-requires-clause-looked : goal.write_all_lines-requires-clause-looked
-write_all_lines-requires-clause-looked c = subst (AreScreened c.args.subjects.now) (sym c.deref.ensures.value) c.in_ok-screened.ensures
+write_all_lines-requires-clause-looked c = ap (map kept_in) c.deref.ensures.value ∙ c.in_ok-screened.ensures

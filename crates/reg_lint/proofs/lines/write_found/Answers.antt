@@ -1,21 +1,12 @@
-use Rattle.std.proofs.Common.{◌≡◌, ℕ, OnOk, List, [], ◌∷◌, ap, ◌∙◌, subst}
-use Rattle.crs_part.specs.declared.text.Text.{Text}
-use Rattle.crs_part.specs.Slots.{name_of}
+use Rattle.std.proofs.Common.{◌≡◌, ℕ, OnOk, List, ap, ◌∙◌, subst}
+use Rattle.crs_value.specs.declared.crs.Crs.{Crs}
 use Rattle.reg_lint.specs.Known.{has_mark}
-use Rattle.reg_lint.specs.Lines.{row_of, fields_of, Writes}
+use Rattle.reg_lint.specs.Lines.{row_of, fields_in, fields_of, Writes}
 use Rattle.reg_lint.proofs.lines.write_found.Goals as goal
 
-pub returns : goal.returns
-returns c =
-    let same : (c.deref.result.now ∷ c.deref-2.result.now ∷ c.authority_of.result.now ∷ c.deref-3.result.now ∷ c.as_bytes-2.result.now ∷ c.deref-4.result.now ∷ [])
-    ≡ fields_of c.args.rule c.args.subject.now c.args.detail.now
-    = λ k.
-    (c.deref.ensures.value ∙ c.in_ok-rule.ensures ∙ c.as_bytes.ensures.value ∙ c.name.ensures) k
-    ∷ c.deref-2.ensures.value k
-    ∷ c.authority_of.ensures k
-    ∷ (c.deref-3.ensures.value ∙ c.in_ok-code.ensures) k
-    ∷ (c.as_bytes-2.ensures ∙ ap (λ (t : Text). t.bytes) (c.name-2.ensures ∙ ap name_of c.parts.ensures)) k
-    ∷ (c.deref-4.ensures.value ∙ c.in_ok-detail.ensures) k
-    ∷ [] in
-    subst (λ (fs : List (List ℕ)). OnOk c.write_unless_known.result (Writes c.args.wtr.now c.write_unless_known.new.wtr (row_of (has_mark c.args.known.now) fs)))
-    same c.write_unless_known.ensures
+pub returns-clause-row : goal.returns-clause-row
+returns-clause-row c = λ s is.
+    let same : fields_in c.args.rule c.deref.result.now c.as_ref.result.now.parts c.args.detail.now ≡ fields_of c.args.rule s c.args.detail.now
+    = λ k. fields_in c.args.rule ((c.deref.ensures.value ∙ is.0) k) ((ap (λ (v : Crs). v.parts) (c.as_ref.ensures ∙ c.in_ok-crs.ensures s is)) k) c.args.detail.now in
+    subst (λ (fs : List (List ℕ)). OnOk c.write_told.result (Writes c.args.wtr.now c.write_told.new.wtr (row_of (has_mark c.args.known.now) fs)))
+    same c.write_told.ensures

@@ -3,8 +3,8 @@ use Rattle.reg_lint.specs.Known.{has_mark}
 use Rattle.reg_lint.specs.Lines.{row_of, fields_of, Writes}
 use Rattle.reg_lint.proofs.lines.write_line.Goals as goal
 
-pub returns-in-Some : goal.returns-in-Some
-returns-in-Some c =
+pub returns-in-Some-clause-row : goal.returns-in-Some-clause-row
+returns-in-Some-clause-row c =
     rw c.in-Some.is
-    (subst (λ (t : List ℕ). OnOk c.write_found.result (Writes c.args.wtr.now c.write_found.new.wtr (row_of (has_mark c.args.known.now) (fields_of c.args.rule c.args.subject.now t))))
-    c.deref.ensures.value c.write_found.ensures)
+    (λ s is. subst (λ (t : List ℕ). OnOk c.write_found.result (Writes c.args.wtr.now c.write_found.new.wtr (row_of (has_mark c.args.known.now) (fields_of c.args.rule s t))))
+    c.deref.ensures.value (c.write_found.ensures.row s is))

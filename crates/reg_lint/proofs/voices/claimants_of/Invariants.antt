@@ -1,7 +1,11 @@
-use Rattle.std.proofs.Common.{◌≡◌, map, take}
+use Rattle.std.proofs.Common.{map, length}
 use Rattle.reg_sense.specs.Claimants.{voice}
 use Rattle.reg_lint.specs.Details.{voice_of}
+use Rattle.reg_lint.proofs.KeptLemmas.{Maps}
 use Rattle.reg_lint.proofs.voices.claimants_of.Given as goal
 
-abbrev pub invariant-loop-subject : goal.invariant-loop-subject
-invariant-loop-subject l = map voice l.made.items ≡ map (voice_of l.fn.rule) (take l.subject-index l.fn.subjects)
+abbrev pub invariant-loop-one : goal.invariant-loop-one
+invariant-loop-one l = Maps (voice_of l.rule) l.kept l.rest (map voice l.made.items)
+
+abbrev pub decreases-loop-one : goal.decreases-loop-one
+decreases-loop-one l = length l.rest
