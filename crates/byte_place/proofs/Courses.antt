@@ -1,15 +1,15 @@
 -- The calls of a place lead along the protocol.
-use Rattle.std.proofs.Common.{◌≡◌, ◌⊎◌, inl, inr, ℕ, Bool, true, false, List, [], ◌∷◌, ◌++◌, Option, Some, None, refl, sym, ◌∙◌, ap, subst}
-use Rattle.byte_system.specs.Disk.{Call, Opens, Looks, Finds, Writes, Syncs, Compares, Renames, Unlinks, Fails}
+use Rattle.std.proofs.Common.{◌≡◌, ◌⊎◌, inl, inr, ℕ, Bool, true, false, List, [], ◌∷◌, ◌++◌, Option, Some, None, take, drop, length, ◌+◌, refl, sym, ◌∙◌, ap, subst}
+use Rattle.std.proofs.Math.Seq.{take-append_seam, drop-append_seam}
+use Rattle.std.proofs.lemmas.List.{append_assoc, append-nil, length-append}
+use Rattle.byte_system.specs.Disk.{Content, Call, Opens, Looks, Finds, Writes, Syncs, Compares, Renames, Unlinks, Fails}
 use Rattle.byte_protocol.specs.declared.replacing.Fault.{Fault}
 use Rattle.byte_protocol.specs.declared.replacing.Fault.TheVariants as fault
 use Rattle.byte_protocol.specs.Replacing.{reserved, Refuses, Asks}
-use Rattle.byte_protocol.specs.Protocol.{Stage, Begins, Owns, Fills, Replaced, ReplacedUnread, IsWhole, IsSynced, FoundSame, Move, GivesUp, WritesAll, SyncsNew, FindsSame, Puts, PutsUnread, Withdraws, Strays, Job, from, to, call_of, IsPath, AreIdle, IsIdle, IsRead, ChangesNone, calls_of}
+use Rattle.byte_protocol.specs.Protocol.{Stage, Begins, Owns, Fills, Replaced, ReplacedUnread, IsWhole, IsPart, IsSynced, FoundSame, Move, GivesUp, WritesPart, WritesMore, WritesRest, SyncsNew, FindsSame, Puts, PutsUnread, Withdraws, Strays, Job, from, to, call_of, end, IsPath, AreIdle, IsIdle, IsRead, ChangesNone, calls_of}
 use Rattle.byte_protocol.specs.Unread.{HasRead}
 use Rattle.byte_protocol.proofs.Led.{IsLed, owned_led}
 use Rattle.byte_protocol.proofs.Faults.{refused_anew}
-use Rattle.byte_out.specs.declared.fault.PutFault.{PutFault}
-use Rattle.byte_out.specs.declared.fault.PutFault.TheVariants as put
 use Rattle.byte_place.specs.declared.progress.At.{At}
 use Rattle.byte_place.specs.declared.progress.At.TheVariants as at
 use Rattle.byte_place.specs.Course.{HasReadUnless, LeadsTo, IsJobAt, IsJobOf, checked, MayBePut, IsRemovable, Comes}
@@ -57,7 +57,7 @@ loosen : (u : Bool) (j : Job) (k : ℕ) (s : Stage) (cs : List Call) → LeadsTo
 loosen u j k s cs l = record { moves = l.moves; path = l.path; idle = l.idle; seen = unless u l.moves l.seen; ends = l.ends; calls = l.calls }
 
 -- the new file is the place's own
-owns : (out new bytes : List ℕ) (u : Bool) (i : ℕ) (cs : List Call) → Comes out new bytes u (at.Owned i) cs → (j : Job) (k : ℕ) (all : List ℕ) → IsJobOf j k out new all
+owns : (out new bytes : List ℕ) (u : Bool) (i : ℕ) (cs : List Call) → Comes out new bytes u (at.Reserved i) cs → (j : Job) (k : ℕ) (all : List ℕ) → IsJobOf j k out new all
     → LeadsTo u j k (Owns i) cs
 owns out new bytes u i cs c j k all job = loosen u j k (Owns i) cs (c.1 j k (names_of j k out new all job))
 
@@ -142,34 +142,60 @@ none_refused fault.Lost p new before mid now v r = tt
 none_refused fault.NotPut p new before mid now v r = tt
 none_refused fault.NotSynced p new before mid now v r = tt
 
-pub written : (out new bytes part whole : List ℕ) (u : Bool) (i : ℕ) (before now : List Call) → Comes out new bytes u (at.Owned i) before → now ≡ Writes i part ∷ before
-    → whole ≡ bytes ++ part → Comes out new whole u (at.Written i) now
-written out new bytes part whole u i before now c e w = λ j k job x.
-    let is : part ≡ j.change k x = sym (w ∙ ap (λ b. b ++ part) c.0) ∙ sym (job.makes x) in
-    by_move u j k (WritesAll x i) (e ∙ ap (λ b. Writes i b ∷ before) is) (owns out new bytes u i before c j k whole job) tt tt
+-- the new file takes bytes
+pub opened : (out new bytes : List ℕ) (u : Bool) (i : ℕ) (before now : List Call) → Comes out new bytes u (at.Reserved i) before → now ≡ Writes i [] ∷ before
+    → Comes out new bytes u (at.Owned i) now
+opened out new bytes u i before now c e = λ rest j k job x.
+    subst (λ n. LeadsTo u j k (Fills x i (IsPart n)) now) (sym (ap length c.0))
+    (by_move u j k (WritesPart x i 0) e (owns out new bytes u i before c j k (bytes ++ rest) job) tt tt)
+
+pub wrote : (out new bytes part whole : List ℕ) (u : Bool) (i : ℕ) (before now : List Call) → Comes out new bytes u (at.Owned i) before → now ≡ Writes i part ∷ before
+    → whole ≡ bytes ++ part → Comes out new whole u (at.Owned i) now
+wrote out new bytes part whole u i before now c e w = λ rest j k job x.
+    let all : whole ++ rest ≡ bytes ++ (part ++ rest) = ap (λ b. b ++ rest) w ∙ append_assoc bytes part rest in
+    let made : j.change k x ≡ bytes ++ (part ++ rest) = job.makes x ∙ all in
+    let is : part ≡ take (length part) (drop (length bytes) (j.change k x)) =
+    sym (ap (λ b. take (length part) (drop (length bytes) b)) made ∙ ap (take (length part)) (drop-append_seam bytes (part ++ rest)) ∙ take-append_seam part rest) in
+    let of_all : IsJobOf j k out new (bytes ++ (part ++ rest)) = record { at_out = job.at_out; at_new = job.at_new; makes = λ y. job.makes y ∙ all } in
+    let count : length bytes + length part ≡ length whole = sym (ap length w ∙ length-append bytes part) in
+    subst (λ n. LeadsTo u j k (Fills x i (IsPart n)) now) count
+    (by_move u j k (WritesMore x i (length bytes) (length part)) (e ∙ ap (λ b. Writes i b ∷ before) is) (c (part ++ rest) j k of_all x) tt tt)
+
+-- a file that only grows has what the place took
+grown : (out new bytes : List ℕ) (u : Bool) (i : ℕ) (cs : List Call) → Comes out new bytes u (at.Owned i) cs → (j : Job) (k : ℕ) → IsJobOf j k out new bytes → (x : Content)
+    → LeadsTo u j k (Fills x i (IsPart (length bytes))) cs
+grown out new bytes u i cs c j k job x =
+    c [] j k (record { at_out = job.at_out; at_new = job.at_new; makes = λ y. job.makes y ∙ sym (append-nil bytes) }) x
 
 pub cut : (out new bytes part whole : List ℕ) (u : Bool) (i : ℕ) (before now : List Call) → Comes out new bytes u (at.Owned i) before → now ≡ Writes i part ∷ before
     → whole ≡ bytes ++ part → Comes out new whole u (at.Broken i) now
 cut out new bytes part whole u i before now c e w = λ j k job. record {
-  move = Withdraws None i IsWhole;
+  move = Withdraws None i (IsPart (length whole));
   idle = tt;
   seen = tt;
   call = refl;
-  leads = written out new bytes part whole u i before now c e w j k job None;
+  leads = grown out new whole u i now (wrote out new bytes part whole u i before now c e w) j k job None;
 }
 
-pub synced : (out new bytes : List ℕ) (u : Bool) (i : ℕ) (before now : List Call) → Comes out new bytes u (at.Written i) before → now ≡ Syncs i ∷ before
-    → Comes out new bytes u (at.Synced i) now
-synced out new bytes u i before now c e = λ j k job x. by_move u j k (SyncsNew x i) e (c j k job x) tt tt
+-- nothing more follows
+closed : (out new bytes : List ℕ) (u : Bool) (i : ℕ) (before now : List Call) → Comes out new bytes u (at.Owned i) before → now ≡ Writes i [] ∷ before
+    → (j : Job) (k : ℕ) → IsJobOf j k out new bytes → (x : Content) → LeadsTo u j k (Fills x i IsWhole) now
+closed out new bytes u i before now c e j k job x =
+    let is : [] ≡ drop (length bytes) (j.change k x) = sym (ap (drop (length bytes)) (job.makes x ∙ sym (append-nil bytes)) ∙ drop-append_seam bytes []) in
+    by_move u j k (WritesRest x i (length bytes)) (e ∙ ap (λ b. Writes i b ∷ before) is) (grown out new bytes u i before c j k job x) tt tt
 
-pub unsynced : (out new bytes : List ℕ) (u : Bool) (i : ℕ) (before now : List Call) → Comes out new bytes u (at.Written i) before → now ≡ Fails ∷ before
+pub synced : (out new bytes : List ℕ) (u : Bool) (i : ℕ) (before mid now : List Call) → Comes out new bytes u (at.Owned i) before → mid ≡ Writes i [] ∷ before → now ≡ Syncs i ∷ mid
+    → Comes out new bytes u (at.Synced i) now
+synced out new bytes u i before mid now c e s = λ j k job x. by_move u j k (SyncsNew x i) s (closed out new bytes u i before mid c e j k job x) tt tt
+
+pub unsynced : (out new bytes : List ℕ) (u : Bool) (i : ℕ) (before mid now : List Call) → Comes out new bytes u (at.Owned i) before → mid ≡ Writes i [] ∷ before → now ≡ Fails ∷ mid
     → Comes out new bytes u (at.Broken i) now
-unsynced out new bytes u i before now c e = λ j k job. record {
+unsynced out new bytes u i before mid now c e s = λ j k job. record {
   move = Withdraws None i IsWhole;
   idle = tt;
   seen = tt;
   call = refl;
-  leads = by_other u j k (Fills None i IsWhole) Fails e (c j k job None) (λ d m. refl);
+  leads = by_other u j k (Fills None i IsWhole) Fails s (closed out new bytes u i before mid c e j k job None) (λ d m. refl);
 }
 
 pub compared : (out new bytes read : List ℕ) (u : Bool) (i : ℕ) (before now : List Call) → Comes out new bytes u (at.Synced i) before → now ≡ Compares out read true ∷ before
@@ -217,52 +243,67 @@ pub renamed_to : (out new bytes : List ℕ) (u : Bool) (i : ℕ) (before now : L
 renamed_to out new bytes u i before now c e = λ j k job.
     renames u j k i c.0 c.1.0 (e ∙ ap (λ o. renamed o new i before) (sym job.at_out) ∙ ap (λ n. renamed j.out n i before) (sym job.at_new)) (c.1.1 j k job)
 
-pub lost : (out new bytes : List ℕ) (u : Bool) (i : ℕ) (before now : List Call) → Comes out new bytes u (at.Ready i) before → now ≡ Looks new i false ∷ before
+unrenamed : (u : Bool) (j : Job) (k i : ℕ) (s : Stage) (new : List ℕ) {before now : List Call} → Unrenamed new i before now → LeadsTo u j k s before → LeadsTo u j k s now
+unrenamed u j k i s new {before} r l = elim r [
+  | inl denied ↦ elim denied [
+    | inl e ↦ by_other u j k s (Looks new i false) e l (λ d m. refl)
+    | inr e ↦ by_other u j k s Fails e l (λ d m. refl)
+  ]
+  | inr e ↦
+      let looked : LeadsTo u j k s (Looks new i true ∷ before) = by_other u j k s (Looks new i true) refl l (λ d m. refl) in
+      by_other u j k s Fails e looked (λ d m. refl)
+]
+
+pub lost : (out new bytes : List ℕ) (u : Bool) (i : ℕ) (before now : List Call) → Comes out new bytes u (at.Ready i) before → Unrenamed new i before now
     → Comes out new bytes u at.Over now
-lost out new bytes u i before now c e = λ j k job.
-    (Fills c.0 i (checked c.0), by_other u j k (Fills c.0 i (checked c.0)) (Looks new i false) e (c.1.1 j k job) (λ d m. refl))
+lost out new bytes u i before now c r = λ j k job.
+    (Fills c.0 i (checked c.0), unrenamed u j k i (Fills c.0 i (checked c.0)) new r (c.1.1 j k job))
 
-pub unrenamed : (out new bytes : List ℕ) (u : Bool) (i : ℕ) (before now : List Call) → Comes out new bytes u (at.Ready i) before
-    → (now ≡ Fails ∷ before) ⊎ (now ≡ Fails ∷ Looks new i true ∷ before) → Comes out new bytes u (at.Broken i) now
-unrenamed out new bytes u i before now c r = λ j k job.
-    let s = Fills c.0 i (checked c.0) in
-    let looked : LeadsTo u j k s (Looks new i true ∷ before) = by_other u j k s (Looks new i true) refl (c.1.1 j k job) (λ d m. refl) in
-    record {
-      move = Withdraws c.0 i (checked c.0);
-      idle = tt;
-      seen = tt;
-      call = refl;
-      leads = elim r [
-        | inl e ↦ by_other u j k s Fails e (c.1.1 j k job) (λ d m. refl)
-        | inr e ↦ by_other u j k s Fails e looked (λ d m. refl)
-      ];
-    }
+-- the new file is left alone
+pub abandoned : (out new bytes : List ℕ) (u : Bool) (i : ℕ) (cs : List Call) → Comes out new bytes u (at.Ready i) cs → Comes out new bytes u at.Over cs
+abandoned out new bytes u i cs c = λ j k job. (Fills c.0 i (checked c.0), c.1.1 j k job)
 
-pub unput : (out new bytes : List ℕ) (u : Bool) (i : ℕ) (f : PutFault) (before now : List Call) → Comes out new bytes u (at.Ready i) before → Unrenamed f new i before now
-    → Comes out new bytes u (at.Broken i) now
-unput out new bytes u i put.NotOpened before now c r = unrenamed out new bytes u i before now c r
-unput out new bytes u i put.Changed before now c r = λ j k job. record {
+-- the new file was not put, and can only be removed
+removable : (out new bytes : List ℕ) (u : Bool) (i : ℕ) (before now : List Call) → Comes out new bytes u (at.Ready i) before → Unrenamed new i before now
+    → (j : Job) (k : ℕ) → IsJobOf j k out new bytes → IsRemovable u j k now
+removable out new bytes u i before now c r j k job = record {
   move = Withdraws c.0 i (checked c.0);
   idle = tt;
   seen = tt;
   call = refl;
-  leads = by_other u j k (Fills c.0 i (checked c.0)) (Looks new i false) r (c.1.1 j k job) (λ d m. refl);
+  leads = unrenamed u j k i (Fills c.0 i (checked c.0)) new r (c.1.1 j k job);
 }
-unput out new bytes u i (put.WriteFailed n) before now c r = absurd r
+
+pub unput : (out new bytes : List ℕ) (u : Bool) (i : ℕ) (before now : List Call) → Comes out new bytes u (at.Ready i) before → Unrenamed new i before now
+    → Comes out new bytes u (at.Broken i) now
+unput out new bytes u i before now c r = removable out new bytes u i before now c r
+
+pub refused_put : (out new bytes : List ℕ) (u : Bool) (i : ℕ) (before now : List Call) → Comes out new bytes u (at.Ready i) before → Unrenamed new i before now
+    → Comes out new bytes u (at.Refused i) now
+refused_put out new bytes u i before now c r = removable out new bytes u i before now c r
 
 -- a call of a place that has been put, and that changes no file
 pub landed : (out new bytes : List ℕ) (u : Bool) (call : Call) (before now : List Call) → ChangesNone call → Comes out new bytes u at.Put before → now ≡ call ∷ before
     → Comes out new bytes u at.Put now
 landed out new bytes u call before now idle c e = λ j k job. let p = c j k job in (p.0, by_other u j k p.0 call e p.1 idle)
 
-pub gives_owned : (out new bytes : List ℕ) (u : Bool) (i : ℕ) (cs : List Call) → Comes out new bytes u (at.Owned i) cs → Comes out new bytes u (at.Broken i) cs
-gives_owned out new bytes u i cs c = λ j k job. record { move = GivesUp i; idle = tt; seen = tt; call = refl; leads = owns out new bytes u i cs c j k bytes job }
+pub gives_reserved : (out new bytes : List ℕ) (u : Bool) (i : ℕ) (cs : List Call) → Comes out new bytes u (at.Reserved i) cs → Comes out new bytes u (at.Broken i) cs
+gives_reserved out new bytes u i cs c = λ j k job. record { move = GivesUp i; idle = tt; seen = tt; call = refl; leads = owns out new bytes u i cs c j k bytes job }
 
-pub gives_written : (out new bytes : List ℕ) (u : Bool) (i : ℕ) (cs : List Call) → Comes out new bytes u (at.Written i) cs → Comes out new bytes u (at.Broken i) cs
-gives_written out new bytes u i cs c = λ j k job. record { move = Withdraws None i IsWhole; idle = tt; seen = tt; call = refl; leads = c j k job None }
+pub gives_owned : (out new bytes : List ℕ) (u : Bool) (i : ℕ) (cs : List Call) → Comes out new bytes u (at.Owned i) cs → Comes out new bytes u (at.Broken i) cs
+gives_owned out new bytes u i cs c = λ j k job. record {
+  move = Withdraws None i (IsPart (length bytes));
+  idle = tt;
+  seen = tt;
+  call = refl;
+  leads = grown out new bytes u i cs c j k job None;
+}
 
 pub gives_synced : (out new bytes : List ℕ) (u : Bool) (i : ℕ) (cs : List Call) → Comes out new bytes u (at.Synced i) cs → Comes out new bytes u (at.Broken i) cs
 gives_synced out new bytes u i cs c = λ j k job. record { move = Withdraws None i IsSynced; idle = tt; seen = tt; call = refl; leads = c j k job None }
+
+pub gives_refused : (out new bytes : List ℕ) (u : Bool) (i : ℕ) (cs : List Call) → Comes out new bytes u (at.Refused i) cs → Comes out new bytes u (at.Broken i) cs
+gives_refused out new bytes u i cs c = c
 
 pub gives_ready : (out new bytes : List ℕ) (u : Bool) (i : ℕ) (cs : List Call) → Comes out new bytes u (at.Ready i) cs → Comes out new bytes u (at.Broken i) cs
 gives_ready out new bytes u i cs c = λ j k job. record { move = Withdraws c.0 i (checked c.0); idle = tt; seen = tt; call = refl; leads = c.1.1 j k job }
@@ -297,10 +338,10 @@ pub each_on_path : (out new bytes : List ℕ) (u : Bool) (a : At) (cs : List Cal
     → (ms : List Move) × IsPath ms × AreIdle ms × (cs ≡ calls_of j k ms) × HasReadUnless u ms
 each_on_path out new bytes u at.Start cs c j k job = on_path u j k Begins cs (loosen u j k Begins cs (c.1 j k (names_of j k out new bytes job)))
 each_on_path out new bytes u (at.Reserved i) cs c j k job = on_path u j k (Owns i) cs (owns out new bytes u i cs c j k bytes job)
-each_on_path out new bytes u (at.Owned i) cs c j k job = on_path u j k (Owns i) cs (owns out new bytes u i cs c j k bytes job)
-each_on_path out new bytes u (at.Written i) cs c j k job = on_path u j k (Fills None i IsWhole) cs (c j k job None)
+each_on_path out new bytes u (at.Owned i) cs c j k job = on_path u j k (Fills None i (IsPart (length bytes))) cs (grown out new bytes u i cs c j k job None)
 each_on_path out new bytes u (at.Synced i) cs c j k job = on_path u j k (Fills None i IsSynced) cs (c j k job None)
 each_on_path out new bytes u (at.Ready i) cs c j k job = on_path u j k (Fills c.0 i (checked c.0)) cs (c.1.1 j k job)
 each_on_path out new bytes u (at.Broken i) cs c j k job = let b = c j k job in on_path u j k (from b.move) cs b.leads
+each_on_path out new bytes u (at.Refused i) cs c j k job = let b = c j k job in on_path u j k (from b.move) cs b.leads
 each_on_path out new bytes u at.Put cs c j k job = let p = c j k job in on_path u j k p.0 cs p.1
 each_on_path out new bytes u at.Over cs c j k job = let p = c j k job in on_path u j k p.0 cs p.1

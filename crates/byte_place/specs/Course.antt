@@ -1,7 +1,7 @@
 -- Which calls a place has made when it has come this far.
-use Rattle.std.specs.Prelude.{◌≡◌, ℕ, Bool, true, false, List, [], Option, Some, None}
+use Rattle.std.specs.Prelude.{◌≡◌, ℕ, Bool, true, false, List, [], Option, Some, None, ◌++◌, length}
 use Rattle.byte_system.specs.Disk.{Content, Call, Unlinks}
-use Rattle.byte_protocol.specs.Protocol.{Job, Move, Stage, Begins, Owns, Fills, Progress, IsWhole, IsSynced, FoundSame, from, call_of, end, IsPath, AreIdle, IsIdle, IsRead, calls_of}
+use Rattle.byte_protocol.specs.Protocol.{Job, Move, Stage, Begins, Owns, Fills, Progress, IsPart, IsSynced, FoundSame, from, call_of, end, IsPath, AreIdle, IsIdle, IsRead, calls_of}
 use Rattle.byte_protocol.specs.Unread.{HasRead}
 use Rattle.byte_place.specs.declared.progress.At.{At}
 use Rattle.byte_place.specs.declared.progress.At.TheVariants as at
@@ -54,11 +54,12 @@ pub record IsRemovable (unread : Bool) (j : Job) (k : ℕ) (cs : List Call) : Ty
 abbrev pub Comes : List ℕ → List ℕ → List ℕ → Bool → At → List Call → Type 0
 Comes out new bytes unread at.Start cs = (bytes ≡ []) × ((j : Job) (k : ℕ) → IsJobAt j out new → LeadsTo false j k Begins cs)
 Comes out new bytes unread (at.Reserved i) cs = (bytes ≡ []) × ((j : Job) (k : ℕ) → IsJobAt j out new → LeadsTo false j k (Owns i) cs)
-Comes out new bytes unread (at.Owned i) cs = (bytes ≡ []) × ((j : Job) (k : ℕ) → IsJobAt j out new → LeadsTo false j k (Owns i) cs)
-Comes out new bytes unread (at.Written i) cs = (j : Job) (k : ℕ) → IsJobOf j k out new bytes → (x : Content) → LeadsTo unread j k (Fills x i IsWhole) cs
+Comes out new bytes unread (at.Owned i) cs =
+    (rest : List ℕ) (j : Job) (k : ℕ) → IsJobOf j k out new (bytes ++ rest) → (x : Content) → LeadsTo unread j k (Fills x i (IsPart (length bytes))) cs
 Comes out new bytes unread (at.Synced i) cs = (j : Job) (k : ℕ) → IsJobOf j k out new bytes → (x : Content) → LeadsTo unread j k (Fills x i IsSynced) cs
 Comes out new bytes unread (at.Ready i) cs =
     (read : Option (List ℕ)) × (MayBePut unread read × ((j : Job) (k : ℕ) → IsJobOf j k out new bytes → LeadsTo unread j k (Fills read i (checked read)) cs))
 Comes out new bytes unread (at.Broken i) cs = (j : Job) (k : ℕ) → IsJobOf j k out new bytes → IsRemovable unread j k cs
+Comes out new bytes unread (at.Refused i) cs = (j : Job) (k : ℕ) → IsJobOf j k out new bytes → IsRemovable unread j k cs
 Comes out new bytes unread at.Put cs = (j : Job) (k : ℕ) → IsJobOf j k out new bytes → (s : Stage) × LeadsTo unread j k s cs
 Comes out new bytes unread at.Over cs = (j : Job) (k : ℕ) → IsJobOf j k out new bytes → (s : Stage) × LeadsTo unread j k s cs

@@ -1,4 +1,4 @@
 pub mod Course
 pub mod Steps
 pub mod Turns
-pub mod Either
+pub mod Ways

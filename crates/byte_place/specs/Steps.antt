@@ -3,8 +3,6 @@ use Rattle.std.specs.Prelude.{◌≡◌, ◌⊎◌, ℕ, true, false, List, [], 
 use Rattle.byte_system.specs.Disk.{Call, Opens, Looks, Finds, Renames, Fails}
 use Rattle.byte_protocol.specs.Replacing.{Denies, Removes, Asks}
 use Rattle.byte_protocol.specs.Protocol.{ChangesNone}
-use Rattle.byte_out.specs.declared.fault.PutFault.{PutFault}
-use Rattle.byte_out.specs.declared.fault.PutFault.TheVariants as put
 use Rattle.byte_protocol.specs.declared.replacing.Fault.{Fault}
 use Rattle.byte_protocol.specs.declared.replacing.Fault.TheVariants as fault
 use Rattle.byte_place.specs.declared.progress.ReserveFault.{ReserveFault}
@@ -43,10 +41,8 @@ abbrev pub renamed : List ℕ → List ℕ → ℕ → List Call → List Call
 renamed out new i before = Renames new out ∷ Looks new i true ∷ before
 
 -- the new name was not found to lead to the new file, or the rename failed
-abbrev pub Unrenamed : PutFault → List ℕ → ℕ → List Call → List Call → Type 0
-Unrenamed put.Changed new i before now = now ≡ Looks new i false ∷ before
-Unrenamed put.NotOpened new i before now = (now ≡ Fails ∷ before) ⊎ (now ≡ Fails ∷ Looks new i true ∷ before)
-Unrenamed (put.WriteFailed n) new i before now = ⊥
+abbrev pub Unrenamed : List ℕ → ℕ → List Call → List Call → Type 0
+Unrenamed new i before now = Denies (Looks new i) before now ⊎ (now ≡ Fails ∷ Looks new i true ∷ before)
 
 -- the new name was not found to lead to the new file; or the file was removed, or that failed
 abbrev pub Clears : List ℕ → ℕ → List Call → List Call → Type 0

@@ -8,7 +8,7 @@ ghost use Rattle.byte_place.specs.Course.{Comes};
 ghost use Rattle.byte_place.specs.Steps.{MakesNone};
 
 use crate::progress::{At, ReserveFault};
-use crate::steps::{make_fault, mode_for, put_own, remove_own, reserve_fault, visit};
+use crate::steps::{Unput, make_fault, mode_for, put_own, remove_own, reserve_fault, visit};
 use byte_io::{DeviceFault, Log, Tally, WriteFault};
 use byte_out::{Chunks, CompareFault, MakeFault, Place, PutFault};
 use byte_protocol::reserve;
@@ -17,28 +17,28 @@ use byte_system::{FolderFault, ReadFault, System};
 /// The place of a file that is replaced by a new one beside it. It makes no call that is not in turn: what comes too early or too
 /// late fails, or does nothing. So whatever is done with it, its calls are a path of the protocol.
 #[derive(Drop)]
-pub struct CallPlace<'a, S: System + Drop> {
+pub struct CallPlace<S: System + Drop> {
     pub(crate) system: S,
-    pub(crate) out: &'a [u8],
-    pub(crate) beside: &'a [u8],
+    pub(crate) out: Vec<u8>,
+    pub(crate) beside: Vec<u8>,
     at: At,
     /// Whether a caller that had not read the old file was about to put the new one in its place.
     pub(crate) unread: bool,
     pub(crate) taken: Log,
     failures: Tally,
     openings: Tally,
-    ghost course: { ∥ Comes out.now beside.now taken.bytes unread at (calls (S.state system)) ∥₁ },
+    ghost course: { ∥ Comes out.items beside.items taken.bytes unread at (calls (S.state system)) ∥₁ },
 }
 
-impl<'a, S: System + Drop> CallPlace<'a, S> {
+impl<S: System + Drop> CallPlace<S> {
     /// The place of the file with the name `out`, whose new file has the name `beside`. No call is made yet.
-    pub fn new(system: S, out: &'a [u8], beside: &'a [u8]) -> CallPlace<'a, S>
+    pub fn new(system: S, out: Vec<u8>, beside: Vec<u8>) -> CallPlace<S>
         requires { calls (S.state system) ≡ [] }
         ensures system { result.system ≡ system }
-        ensures out { result.out ≡ out.entry }
-        ensures beside { result.beside ≡ beside.entry }
+        ensures out { result.out ≡ out }
+        ensures beside { result.beside ≡ beside }
         ensures unread { result.unread ≡ false }
-        ensures untold { ⟦<CallPlace<'a, S> as Place>⟧.state result ≡ untold (target_of None) }
+        ensures untold { ⟦<CallPlace<S> as Place>⟧.state result ≡ untold (target_of None) }
     {
         CallPlace {
             system,
@@ -52,18 +52,43 @@ impl<'a, S: System + Drop> CallPlace<'a, S> {
         }
     }
 
+    /// Begins anew over this system, if there is no new file: all files of the former one are closed, and their locks end.
+    pub fn restart(&mut self, system: S)
+        requires { calls (S.state system) ≡ [] }
+        ensures out { self.new.out ≡ self.old.out }
+        ensures beside { self.new.beside ≡ self.old.beside }
+    {
+        if self.has_file() {
+            return;
+        }
+        self.system = system;
+        self.at = At::Start;
+        self.unread = false;
+        self.taken = Log::empty();
+    }
+
+    // Whether there is a new file, which is still to be put in place or removed.
+    fn has_file(&self) -> bool {
+        match self.at {
+            At::Start | At::Put | At::Over => false,
+            _ => true,
+        }
+    }
+
     /// Makes and locks the new file, before the old one is read; `make` then finds it. After a fault it can be tried again.
     pub fn reserve(&mut self) -> Result<(), ReserveFault>
-        ensures same { ⟦<CallPlace<'a, S> as Place>⟧.state self.new ≡ ⟦<CallPlace<'a, S> as Place>⟧.state self.old }
+        ensures same { ⟦<CallPlace<S> as Place>⟧.state self.new ≡ ⟦<CallPlace<S> as Place>⟧.state self.old }
+        ensures out { self.new.out ≡ self.old.out }
+        ensures beside { self.new.beside ≡ self.old.beside }
         ensures fault { IfErr result (λ e. MakesNone e (calls (S.state self.old.system)) (calls (S.state self.new.system))) }
     {
         let At::Start = self.at else {
             return Ok(());
         };
-        let Ok(is_there) = visit(&mut self.system, self.out) else {
+        let Ok(is_there) = visit(&mut self.system, &self.out) else {
             return Err(ReserveFault::NotOpened);
         };
-        let made = match reserve(&mut self.system, self.beside, mode_for(is_there)) {
+        let made = match reserve(&mut self.system, &self.beside, mode_for(is_there)) {
             Ok(made) => made,
             Err(fault) => return Err(reserve_fault(fault)),
         };
@@ -77,31 +102,57 @@ impl<'a, S: System + Drop> CallPlace<'a, S> {
         Ok(())
     }
 
-    /// The system, on which the place makes no more calls.
-    pub fn into_system(self) -> S
-        ensures { result ≡ self.entry.system }
+    /// Removes a new file that was reserved and not used.
+    pub fn release(&mut self)
+        ensures same { ⟦<CallPlace<S> as Place>⟧.state self.new ≡ ⟦<CallPlace<S> as Place>⟧.state self.old }
+        ensures out { self.new.out ≡ self.old.out }
+        ensures beside { self.new.beside ≡ self.old.beside }
     {
-        let CallPlace {
-            system,
-            out: _,
-            beside: _,
-            at: _,
-            unread: _,
-            taken: _,
-            failures: _,
-            openings: _,
-        } = self;
-        system
+        let At::Reserved(file) = self.at else {
+            return;
+        };
+        self.at = At::Broken(file);
+        self.clear();
+    }
+
+    /// Leaves the new file alone, whose name leads to another file.
+    pub fn abandon(&mut self)
+        ensures same { ⟦<CallPlace<S> as Place>⟧.state self.new ≡ ⟦<CallPlace<S> as Place>⟧.state self.old }
+        ensures out { self.new.out ≡ self.old.out }
+        ensures beside { self.new.beside ≡ self.old.beside }
+    {
+        let At::Ready(_file) = self.at else {
+            return;
+        };
+        self.at = At::Over;
+    }
+
+    /// Whether the system refused to rename the new file to the old one, which may still be open to writing.
+    pub fn is_refused(&self) -> bool {
+        match self.at {
+            At::Refused(_) => true,
+            _ => false,
+        }
+    }
+
+    /// Whether the place was used: another file is put by another place.
+    pub fn is_over(&self) -> bool {
+        match self.at {
+            At::Put | At::Over => true,
+            _ => false,
+        }
     }
 
     // Opens the new file to the same people as the old one. Otherwise it is removed.
     fn likens(&mut self) -> bool
-        ensures { ⟦<CallPlace<'a, S> as Place>⟧.state self.new ≡ ⟦<CallPlace<'a, S> as Place>⟧.state self.old }
+        ensures same { ⟦<CallPlace<S> as Place>⟧.state self.new ≡ ⟦<CallPlace<S> as Place>⟧.state self.old }
+        ensures out { self.new.out ≡ self.old.out }
+        ensures beside { self.new.beside ≡ self.old.beside }
     {
         let At::Reserved(file) = self.at else {
             return false;
         };
-        match self.system.make_alike(file, self.out) {
+        match self.system.make_alike(file, &self.out) {
             Ok(true) => true,
             Ok(false) => {
                 self.at = At::Broken(file);
@@ -118,18 +169,20 @@ impl<'a, S: System + Drop> CallPlace<'a, S> {
 
     // Removes the new file, which can only be removed.
     fn clear(&mut self)
-        ensures { ⟦<CallPlace<'a, S> as Place>⟧.state self.new ≡ ⟦<CallPlace<'a, S> as Place>⟧.state self.old }
+        ensures same { ⟦<CallPlace<S> as Place>⟧.state self.new ≡ ⟦<CallPlace<S> as Place>⟧.state self.old }
+        ensures out { self.new.out ≡ self.old.out }
+        ensures beside { self.new.beside ≡ self.old.beside }
     {
         let At::Broken(file) = self.at else {
             return;
         };
-        remove_own(&mut self.system, file, self.beside);
+        remove_own(&mut self.system, file, &self.beside);
         self.at = At::Over;
     }
 
     // A file that was not read is not compared.
     fn settles(&mut self, is_read: bool)
-        ensures same { ⟦<CallPlace<'a, S> as Place>⟧.state self.new ≡ ⟦<CallPlace<'a, S> as Place>⟧.state self.old }
+        ensures same { ⟦<CallPlace<S> as Place>⟧.state self.new ≡ ⟦<CallPlace<S> as Place>⟧.state self.old }
         ensures read { is_read ≡ true → self.new.unread ≡ self.old.unread }
     {
         let At::Synced(file) = self.at else {
@@ -143,7 +196,7 @@ impl<'a, S: System + Drop> CallPlace<'a, S> {
 
     // Renames the new file to the old one, if it may be put in its place.
     fn puts<C: Chunks>(&mut self, read: Option<&[u8]>, _content: &mut C) -> Result<(), PutFault>
-        ensures calls { PutsOnly result (C.bytes _content.old) (⟦<CallPlace<'a, S> as Place>⟧.state self.old).sink (⟦<CallPlace<'a, S> as Place>⟧.state self.new).sink }
+        ensures calls { PutsOnly result (C.bytes _content.old) (⟦<CallPlace<S> as Place>⟧.state self.old).sink (⟦<CallPlace<S> as Place>⟧.state self.new).sink }
         ensures read { IsSome read.entry → self.new.unread ≡ self.old.unread }
     {
         self.settles(read.is_some());
@@ -151,16 +204,21 @@ impl<'a, S: System + Drop> CallPlace<'a, S> {
             self.failures = Tally::after(&self.failures);
             return Err(PutFault::NotOpened);
         };
-        match put_own(&mut self.system, file, self.out, self.beside) {
+        match put_own(&mut self.system, file, &self.out, &self.beside) {
             Ok(()) => {
                 self.at = At::Put;
                 Ok(())
             }
-            Err(PutFault::Changed) => {
+            Err(Unput::Lost) => {
                 self.at = At::Over;
                 Err(PutFault::Changed)
             }
-            Err(_) => {
+            Err(Unput::Refused) => {
+                self.at = At::Refused(file);
+                self.failures = Tally::after(&self.failures);
+                Err(PutFault::NotOpened)
+            }
+            Err(Unput::NotPut) => {
                 self.at = At::Broken(file);
                 self.failures = Tally::after(&self.failures);
                 Err(PutFault::NotOpened)
@@ -170,20 +228,20 @@ impl<'a, S: System + Drop> CallPlace<'a, S> {
 
     // A new file that has not been put can only be removed from now on.
     fn gives_up(&mut self)
-        ensures { ⟦<CallPlace<'a, S> as Place>⟧.state self.new ≡ ⟦<CallPlace<'a, S> as Place>⟧.state self.old }
+        ensures { ⟦<CallPlace<S> as Place>⟧.state self.new ≡ ⟦<CallPlace<S> as Place>⟧.state self.old }
     {
         match self.at {
             At::Reserved(file) => self.at = At::Broken(file),
             At::Owned(file) => self.at = At::Broken(file),
-            At::Written(file) => self.at = At::Broken(file),
             At::Synced(file) => self.at = At::Broken(file),
             At::Ready(file) => self.at = At::Broken(file),
+            At::Refused(file) => self.at = At::Broken(file),
             At::Start | At::Broken(_) | At::Put | At::Over => {}
         }
     }
 }
 
-impl<'a, S: System + Drop> Place for CallPlace<'a, S> {
+impl<S: System + Drop> Place for CallPlace<S> {
     ghost state = { λ s. record {
       sink = record {
         written = None;
@@ -204,6 +262,8 @@ impl<'a, S: System + Drop> Place for CallPlace<'a, S> {
             self.failures = Tally::after(&self.failures);
             return Err(MakeFault::NotOpened);
         };
+        // Nothing yet: what the place takes follows.
+        let _ = self.system.write(file, &[]);
         self.at = At::Owned(file);
         self.openings = Tally::after(&self.openings);
         Ok(())
@@ -224,16 +284,17 @@ impl<'a, S: System + Drop> Place for CallPlace<'a, S> {
             self.failures = Tally::after(&self.failures);
             return Err(WriteFault { written });
         }
-        self.at = At::Written(file);
         self.taken.note(bytes);
         Ok(())
     }
 
     fn sync(&mut self) -> Result<(), DeviceFault> {
-        let At::Written(file) = self.at else {
+        let At::Owned(file) = self.at else {
             self.failures = Tally::after(&self.failures);
             return Err(DeviceFault);
         };
+        // There is no more.
+        let _ = self.system.write(file, &[]);
         if self.system.sync(file).is_err() {
             self.at = At::Broken(file);
             self.failures = Tally::after(&self.failures);
@@ -247,7 +308,7 @@ impl<'a, S: System + Drop> Place for CallPlace<'a, S> {
         let At::Synced(file) = self.at else {
             return Err(CompareFault::Changed);
         };
-        match self.system.has(self.out, read) {
+        match self.system.has(&self.out, read) {
             Ok(true) => {
                 self.at = At::Ready(file);
                 Ok(())
@@ -257,6 +318,11 @@ impl<'a, S: System + Drop> Place for CallPlace<'a, S> {
                 Err(CompareFault::Changed)
             }
             Err(ReadFault::NotOpened) => {
+                self.at = At::Broken(file);
+                self.failures = Tally::after(&self.failures);
+                Err(CompareFault::NotOpened)
+            }
+            Err(ReadFault::Forbidden) => {
                 self.at = At::Broken(file);
                 self.failures = Tally::after(&self.failures);
                 Err(CompareFault::NotOpened)
@@ -278,7 +344,7 @@ impl<'a, S: System + Drop> Place for CallPlace<'a, S> {
             self.failures = Tally::after(&self.failures);
             return Err(DeviceFault);
         };
-        match self.system.sync_folder(self.out) {
+        match self.system.sync_folder(&self.out) {
             Ok(()) => Ok(()),
             // There is no way to sync a folder that may not be opened.
             Err(FolderFault::Forbidden) => Ok(()),

@@ -13,14 +13,14 @@ use byte_system::System;
 
 /// Whatever was done with a place, its calls are a path of the protocol. Those that are no moves change no file. If each caller of
 /// `put` gave what it had read, no file was put in place without a comparison.
-pub fn its_calls_are_a_path<S: System + Drop>(_place: &CallPlace<'_, S>)
-    ensures { (j : Job) (k : ℕ) → IsJobOf j k _place.now.out.now _place.now.beside.now _place.now.taken.bytes →
+pub fn its_calls_are_a_path<S: System + Drop>(_place: &CallPlace<S>)
+    ensures { (j : Job) (k : ℕ) → IsJobOf j k _place.now.out.items _place.now.beside.items _place.now.taken.bytes →
         ∥ ((ms : List Move) × IsPath ms × AreIdle ms × (calls (S.state _place.now.system) ≡ calls_of j k ms) × HasReadUnless _place.now.unread ms) ∥₁ }
 {}
 
 /// Whatever was done with a place that is written in place, its calls are turns. Those that are no turns of the protocol change no file.
 /// If each caller of `put` gave what it had read, no file was written without a comparison.
-pub fn its_calls_are_a_round<S: System + Drop>(_place: &WithinPlace<'_, S>)
-    ensures { (t : Task) (k : ℕ) → IsTaskOf t k _place.now.out.now _place.now.got.bytes →
+pub fn its_calls_are_a_round<S: System + Drop>(_place: &WithinPlace<S>)
+    ensures { (t : Task) (k : ℕ) → IsTaskOf t k _place.now.out.items _place.now.got.bytes →
         ∥ ((ms : List Turn) × IsRound ms × AreCalm ms × (calls (S.state _place.now.system) ≡ round_calls t k ms) × AreReadUnless _place.now.unread ms) ∥₁ }
 {}

@@ -2,18 +2,24 @@
 #![tactic(auto)]
 
 mod call_place;
-mod either_place;
 mod laws;
 mod new_place;
+mod path_place;
 mod progress;
+mod rereading;
 mod steps;
+mod systems;
 #[cfg(test)]
 mod tests;
+mod waiting;
+mod way;
 mod within_place;
 
+pub use byte_system::HostSystem;
 pub use call_place::CallPlace;
-pub use either_place::EitherPlace;
 pub use laws::{its_calls_are_a_path, its_calls_are_a_round};
 pub use new_place::NewPlace;
+pub use path_place::PathPlace;
 pub use progress::ReserveFault;
+pub use systems::{HostSystems, SystemSource};
 pub use within_place::WithinPlace;

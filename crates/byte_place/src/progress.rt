@@ -7,15 +7,15 @@ pub(crate) enum At {
     Start,
     /// The new file was made before the place was told to.
     Reserved(usize),
-    /// It is empty.
+    /// It has the bytes that the place took.
     Owned(usize),
-    /// It has all bytes that the place took.
-    Written(usize),
     Synced(usize),
     /// It may be put in the place of the old one.
     Ready(usize),
     /// It can only be removed.
     Broken(usize),
+    /// It can only be removed, since the system refused to rename it.
+    Refused(usize),
     /// It has the name of the old one.
     Put,
     /// There is nothing more to do.
@@ -29,6 +29,8 @@ pub(crate) enum Within {
     Locked(usize),
     /// The file may be written.
     Ready(usize),
+    /// It was emptied, and has the bytes that it got.
+    Filling(usize),
     Over,
 }
 

@@ -1,15 +1,15 @@
 //! The calls by which a place looks at the old file, puts its new file in place, or removes it.
 
-ghost use Rattle.std.specs.Prelude.{◌≡◌, ◌≤◌, ◌∷◌, OnOk, OnErr, IfOk, IfErr};
+ghost use Rattle.std.specs.Prelude.{◌≡◌, ◌∷◌, OnOk, OnErr, IfOk};
 ghost use Rattle.byte_system.specs.Disk.{Finds};
 ghost use Rattle.byte_system.specs.System.{GoesOn, calls};
 ghost use Rattle.byte_protocol.specs.Replacing.{Asks};
 ghost use Rattle.byte_place.specs.Steps.{Clears, Unrenamed, Visits, renamed, told_of};
 
 use crate::progress::ReserveFault;
-use byte_out::{MakeFault, PutFault};
-use byte_protocol::{Fault, WriteFault};
-use byte_system::{Failed, Mode, System, There};
+use byte_out::MakeFault;
+use byte_protocol::Fault;
+use byte_system::{Failed, Mode, RenameFault, System, There};
 
 /// Why no new file was made, as places tell it.
 pub(crate) fn make_fault(fault: ReserveFault) -> MakeFault {
@@ -79,26 +79,37 @@ fn find<S: System>(system: &mut S, out: &[u8]) -> Result<bool, Failed>
     }
 }
 
+/// Why a new file was not put in the place of the old one.
+#[derive(Clone, Copy, Debug, PartialEq, Eq)]
+pub(crate) enum Unput {
+    /// Its name leads to another file.
+    Lost,
+    /// The system refuses to rename it.
+    Refused,
+    NotPut,
+}
+
 /// Renames the new file, if its name still leads to it.
 pub(crate) fn put_own<S: System>(
     system: &mut S,
     file: usize,
     out: &[u8],
     new: &[u8],
-) -> Result<(), PutFault>
+) -> Result<(), Unput>
     ensures goes { GoesOn (S.state system.old) (S.state system.new) }
     ensures ok { OnOk result (calls (S.state system.new) ≡ renamed out.now new.now file (calls (S.state system.old))) }
-    ensures fault { IfErr result (λ e. Unrenamed e new.now file (calls (S.state system.old)) (calls (S.state system.new))) }
+    ensures fault { OnErr result (Unrenamed new.now file (calls (S.state system.old)) (calls (S.state system.new))) }
 {
     match system.is_named(new, file) {
         Ok(true) => {}
-        Ok(false) => return Err(PutFault::Changed),
-        Err(_) => return Err(PutFault::NotOpened),
+        Ok(false) => return Err(Unput::Lost),
+        Err(_) => return Err(Unput::NotPut),
     }
-    if system.rename(new, out).is_err() {
-        return Err(PutFault::NotOpened);
+    match system.rename(new, out) {
+        Ok(()) => Ok(()),
+        Err(RenameFault::Refused) => Err(Unput::Refused),
+        Err(RenameFault::NotRenamed) => Err(Unput::NotPut),
     }
-    Ok(())
 }
 
 /// Removes the new file, if its name still leads to it.
@@ -112,15 +123,4 @@ pub(crate) fn remove_own<S: System>(system: &mut S, file: usize, new: &[u8])
         Err(_) => return,
     }
     let _ = system.unlink(new);
-}
-
-/// How many of the bytes a file has that was not filled. If it has all of them, they may not be sure.
-pub(crate) fn written(fault: WriteFault, whole: usize) -> usize
-    ensures { result ≤ whole }
-{
-    match fault {
-        WriteFault::NotWritten(count) => count.min(whole),
-        WriteFault::NotSure => whole,
-        _ => 0,
-    }
 }

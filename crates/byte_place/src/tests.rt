@@ -1,7 +1,6 @@
 //! Files that are replaced over a system in memory, beside a second process.
 
 use crate::call_place::CallPlace;
-use crate::either_place::EitherPlace;
 use crate::new_place::NewPlace;
 use crate::within_place::WithinPlace;
 use byte_out::{InOne, Place, ReplaceFault, replace};
@@ -38,7 +37,7 @@ fn ends(
     let mut acts = Vec::new(alloc);
     with_old(alloc, &mut acts)?;
     let system = MemSystem::new(alloc, 1, acts, fails.to_vec(alloc)?);
-    let mut place = CallPlace::new(system, b"out", b"new");
+    let mut place = CallPlace::new(system, b"out".to_vec(alloc)?, b"new".to_vec(alloc)?);
     let result = replace(&mut place, read, b"mine");
     Ok(result == want && place.system.read(b"out") == Some(left))
 }
@@ -55,9 +54,9 @@ fn replaces(rt: HostRuntime) -> Result<(), Fail> {
     assert!(rt; ends(alloc, &[2], Some(b"old"), not_made, b"old")?);
     assert!(rt; ends(alloc, &[5], Some(b"old"), not_made, b"old")?);
     let cut = Err(ReplaceFault::WriteFailed(2));
-    assert!(rt; ends(alloc, &[6], Some(b"old"), cut, b"old")?);
+    assert!(rt; ends(alloc, &[7], Some(b"old"), cut, b"old")?);
     let not_synced = Err(ReplaceFault::NotSynced);
-    assert!(rt; ends(alloc, &[11], Some(b"old"), not_synced, b"mine")?);
+    assert!(rt; ends(alloc, &[13], Some(b"old"), not_synced, b"mine")?);
     Ok(())
 }
 
@@ -67,12 +66,12 @@ fn what_is_not_in_turn_fails(rt: HostRuntime) -> Result<(), Fail> {
     let mut acts = Vec::new(alloc);
     with_old(alloc, &mut acts)?;
     let system = MemSystem::new(alloc, 1, acts, Vec::new(alloc));
-    let mut place = CallPlace::new(system, b"out", b"new");
+    let mut place = CallPlace::new(system, b"out".to_vec(alloc)?, b"new".to_vec(alloc)?);
     assert!(rt; place.make().is_ok());
     assert!(rt; place.make().is_err());
     assert!(rt; place.put(None, &mut InOne::new(b"mine")).is_err());
     assert!(rt; place.write(b"mine").is_ok());
-    assert!(rt; place.write(b"more").is_err());
+    assert!(rt; place.write(b"more").is_ok());
     assert!(rt; place.put(None, &mut InOne::new(b"mine")).is_err());
     assert!(rt; place.land().is_err());
     place.remove();
@@ -106,7 +105,7 @@ fn ends_within(
     let mut acts = Vec::new(alloc);
     with_old(alloc, &mut acts)?;
     let system = MemSystem::new(alloc, 1, acts, fails.to_vec(alloc)?);
-    let mut place = WithinPlace::new(system, b"out");
+    let mut place = WithinPlace::new(system, b"out".to_vec(alloc)?);
     let result = replace(&mut place, read, b"mine");
     Ok(result == want && place.system.read(b"out") == Some(left))
 }
@@ -124,22 +123,5 @@ fn writes_in_place(rt: HostRuntime) -> Result<(), Fail> {
     assert!(rt; ends_within(alloc, &[5], Some(b"old"), cut, b"mi")?);
     let not_sure = Err(ReplaceFault::WriteFailed(4));
     assert!(rt; ends_within(alloc, &[6], Some(b"old"), not_sure, b"mine")?);
-    Ok(())
-}
-
-#[test]
-fn writes_in_place_where_the_folder_forbids_a_new_file(rt: HostRuntime) -> Result<(), Fail> {
-    let alloc = rt.alloc();
-    let mut acts = Vec::new(alloc);
-    with_old(alloc, &mut acts)?;
-    let mut system = MemSystem::new(alloc, 1, acts, Vec::new(alloc));
-    system.forbid();
-    let mut place = EitherPlace::reserve(system, b"out", b"new");
-    assert!(rt; !place.is_beside());
-    assert!(rt; replace(&mut place, Some(b"old"), b"mine") == Ok(()));
-    let system = MemSystem::new(alloc, 1, Vec::new(alloc), Vec::new(alloc));
-    let mut place = EitherPlace::reserve(system, b"out", b"new");
-    assert!(rt; place.is_beside());
-    assert!(rt; replace(&mut place, None, b"mine") == Ok(()));
     Ok(())
 }

@@ -1,25 +1,23 @@
 //! The place of a file that is written in place.
 
-ghost use Rattle.std.specs.Prelude.{◌≡◌, None, IsSome, true, false};
+ghost use Rattle.std.specs.Prelude.{◌≡◌, [], None, IsSome, true, false};
 ghost use Rattle.byte_io.specs.Device.{target_of};
 ghost use Rattle.byte_out.specs.Place.{untold, PutsOnly};
 ghost use Rattle.byte_system.specs.System.{calls};
-ghost use Rattle.byte_place.specs.Steps.{AreNone};
 ghost use Rattle.byte_place.specs.Turns.{Turns};
 
 use crate::progress::Within;
-use crate::steps::written;
 use byte_io::{DeviceFault, Log, Tally, WriteFault};
 use byte_out::{Chunks, CompareFault, MakeFault, Place, PutFault};
-use byte_protocol::{enter, fill};
+use byte_protocol::{EntryFault, enter};
 use byte_system::{ReadFault, System};
 
 /// The place of a file that is written in place, by `put`, and not before. It makes no call that is not in turn, so its calls are turns
 /// of the protocol of such files.
 #[derive(Drop)]
-pub struct WithinPlace<'a, S: System + Drop> {
+pub struct WithinPlace<S: System + Drop> {
     pub(crate) system: S,
-    pub(crate) out: &'a [u8],
+    pub(crate) out: Vec<u8>,
     at: Within,
     /// Whether a caller that had not read the file was about to write it.
     pub(crate) unread: bool,
@@ -28,17 +26,17 @@ pub struct WithinPlace<'a, S: System + Drop> {
     taken: Log,
     failures: Tally,
     openings: Tally,
-    ghost course: { ∥ Turns out.now got.bytes unread at (calls (S.state system)) ∥₁ },
+    ghost course: { ∥ Turns out.items got.bytes unread at (calls (S.state system)) ∥₁ },
 }
 
-impl<'a, S: System + Drop> WithinPlace<'a, S> {
-    /// The place of the file with the name `out`. No call was made that changes a file.
-    pub fn new(system: S, out: &'a [u8]) -> WithinPlace<'a, S>
-        requires { AreNone (calls (S.state system)) }
+impl<S: System + Drop> WithinPlace<S> {
+    /// The place of the file with the name `out`. No call is made yet.
+    pub fn new(system: S, out: Vec<u8>) -> WithinPlace<S>
+        requires { calls (S.state system) ≡ [] }
         ensures system { result.system ≡ system }
-        ensures out { result.out ≡ out.entry }
+        ensures out { result.out ≡ out }
         ensures unread { result.unread ≡ false }
-        ensures untold { ⟦<WithinPlace<'a, S> as Place>⟧.state result ≡ untold (target_of None) }
+        ensures untold { ⟦<WithinPlace<S> as Place>⟧.state result ≡ untold (target_of None) }
     {
         WithinPlace {
             system,
@@ -54,7 +52,7 @@ impl<'a, S: System + Drop> WithinPlace<'a, S> {
 
     // A file that was not read is not compared.
     fn settles(&mut self, is_read: bool)
-        ensures same { ⟦<WithinPlace<'a, S> as Place>⟧.state self.new ≡ ⟦<WithinPlace<'a, S> as Place>⟧.state self.old }
+        ensures same { ⟦<WithinPlace<S> as Place>⟧.state self.new ≡ ⟦<WithinPlace<S> as Place>⟧.state self.old }
         ensures read { is_read ≡ true → self.new.unread ≡ self.old.unread }
     {
         let Within::Locked(file) = self.at else {
@@ -66,41 +64,136 @@ impl<'a, S: System + Drop> WithinPlace<'a, S> {
         }
     }
 
-    // Writes the bytes in the place of those of the file, if they may be. They have to be in one chunk.
-    fn puts<C: Chunks>(&mut self, read: Option<&[u8]>, _content: &mut C) -> Result<(), PutFault>
-        ensures calls { PutsOnly result (C.bytes _content.old) (⟦<WithinPlace<'a, S> as Place>⟧.state self.old).sink (⟦<WithinPlace<'a, S> as Place>⟧.state self.new).sink }
-        ensures read { IsSome read.entry → self.new.unread ≡ self.old.unread }
+    /// Opens the file and locks it, if that was not done before. Until the place is dropped, nobody else writes the file in place.
+    pub fn enter(&mut self) -> Result<(), EntryFault>
+        ensures same { ⟦<WithinPlace<S> as Place>⟧.state self.new ≡ ⟦<WithinPlace<S> as Place>⟧.state self.old }
+        ensures out { self.new.out ≡ self.old.out }
+        ensures unread { self.new.unread ≡ self.old.unread }
     {
-        self.settles(read.is_some());
-        let Within::Ready(file) = self.at else {
-            self.failures = Tally::after(&self.failures);
-            return Err(PutFault::NotOpened);
-        };
-        let whole = _content.len();
-        _content.restart();
-        let _ = _content.advance();
-        let bytes = _content.chunk();
-        if bytes.len() != whole {
-            self.failures = Tally::after(&self.failures);
-            return Err(PutFault::NotOpened);
+        match self.at {
+            Within::Start => {}
+            Within::Locked(_) => return Ok(()),
+            _ => return Err(EntryFault::NotOpened),
         }
-        match fill(&mut self.system, file, bytes) {
-            Ok(()) => {
-                self.at = Within::Over;
-                self.got.note(bytes);
+        self.enters()
+    }
+
+    fn enters(&mut self) -> Result<(), EntryFault>
+        ensures same { ⟦<WithinPlace<S> as Place>⟧.state self.new ≡ ⟦<WithinPlace<S> as Place>⟧.state self.old }
+        ensures out { self.new.out ≡ self.old.out }
+        ensures unread { self.new.unread ≡ self.old.unread }
+    {
+        let Within::Start = self.at else {
+            return Err(EntryFault::NotOpened);
+        };
+        match enter(&mut self.system, &self.out) {
+            Ok(file) => {
+                self.at = Within::Locked(file);
                 Ok(())
             }
             Err(fault) => {
                 self.at = Within::Over;
-                self.got.note(bytes);
+                Err(fault)
+            }
+        }
+    }
+
+    // Empties the file, if it may be written.
+    fn empties(&mut self) -> bool
+        ensures same { ⟦<WithinPlace<S> as Place>⟧.state self.new ≡ ⟦<WithinPlace<S> as Place>⟧.state self.old }
+        ensures unread { self.new.unread ≡ self.old.unread }
+    {
+        let Within::Ready(file) = self.at else {
+            return false;
+        };
+        if self.system.truncate(file).is_err() {
+            self.at = Within::Over;
+            return false;
+        }
+        self.at = Within::Filling(file);
+        true
+    }
+
+    // Writes more bytes to the file, which was emptied. Returns how many.
+    fn adds(&mut self, bytes: &[u8]) -> usize
+        ensures same { ⟦<WithinPlace<S> as Place>⟧.state self.new ≡ ⟦<WithinPlace<S> as Place>⟧.state self.old }
+        ensures unread { self.new.unread ≡ self.old.unread }
+    {
+        let Within::Filling(file) = self.at else {
+            return 0;
+        };
+        let written = self.system.write(file, bytes);
+        if written < bytes.len() {
+            self.at = Within::Over;
+            self.got.note(&bytes[..written]);
+            return written;
+        }
+        self.got.note(bytes);
+        written
+    }
+
+    // Syncs the file, which has all bytes.
+    fn ends(&mut self) -> bool
+        ensures same { ⟦<WithinPlace<S> as Place>⟧.state self.new ≡ ⟦<WithinPlace<S> as Place>⟧.state self.old }
+        ensures unread { self.new.unread ≡ self.old.unread }
+    {
+        let Within::Filling(file) = self.at else {
+            return false;
+        };
+        if self.system.sync(file).is_err() {
+            self.at = Within::Over;
+            return false;
+        }
+        self.at = Within::Over;
+        true
+    }
+
+    // Writes all bytes in the place of those of the file. Returns at a fault how many were written.
+    fn pours<C: Chunks>(&mut self, content: &mut C) -> Result<(), usize>
+        ensures same { ⟦<WithinPlace<S> as Place>⟧.state self.new ≡ ⟦<WithinPlace<S> as Place>⟧.state self.old }
+        ensures unread { self.new.unread ≡ self.old.unread }
+    {
+        if !self.empties() {
+            return Err(0);
+        }
+        let mut written = 0usize;
+        content.restart();
+        while content.advance() {
+            let chunk = content.chunk();
+            let count = self.adds(chunk);
+            written = written.saturating_add(count);
+            if count < chunk.len() {
+                return Err(written);
+            }
+        }
+        if !self.ends() {
+            return Err(written);
+        }
+        Ok(())
+    }
+
+    // Writes the bytes in the place of those of the file, if they may be.
+    fn puts<C: Chunks>(&mut self, read: Option<&[u8]>, content: &mut C) -> Result<(), PutFault>
+        ensures calls { PutsOnly result (C.bytes content.old) (⟦<WithinPlace<S> as Place>⟧.state self.old).sink (⟦<WithinPlace<S> as Place>⟧.state self.new).sink }
+        ensures read { IsSome read.entry → self.new.unread ≡ self.old.unread }
+    {
+        self.settles(read.is_some());
+        let Within::Ready(_) = self.at else {
+            self.failures = Tally::after(&self.failures);
+            return Err(PutFault::NotOpened);
+        };
+        let whole = content.len();
+        match self.pours(content) {
+            Ok(()) => Ok(()),
+            Err(count) => {
                 self.failures = Tally::after(&self.failures);
-                Err(PutFault::WriteFailed(written(fault, whole)))
+                Err(PutFault::WriteFailed(count.min(whole)))
             }
         }
     }
 }
 
-impl<'a, S: System + Drop> Place for WithinPlace<'a, S> {
+impl<S: System + Drop> Place for WithinPlace<S> {
     ghost state = { λ s. record {
       sink = record {
         written = None;
@@ -113,18 +206,12 @@ impl<'a, S: System + Drop> Place for WithinPlace<'a, S> {
     } };
 
     fn make(&mut self) -> Result<(), MakeFault> {
-        let Within::Start = self.at else {
-            self.failures = Tally::after(&self.failures);
-            return Err(MakeFault::NotOpened);
-        };
-        match enter(&mut self.system, self.out) {
-            Ok(file) => {
-                self.at = Within::Locked(file);
+        match self.enters() {
+            Ok(()) => {
                 self.openings = Tally::after(&self.openings);
                 Ok(())
             }
             Err(_) => {
-                self.at = Within::Over;
                 self.failures = Tally::after(&self.failures);
                 Err(MakeFault::NotOpened)
             }
@@ -145,7 +232,7 @@ impl<'a, S: System + Drop> Place for WithinPlace<'a, S> {
         let Within::Locked(file) = self.at else {
             return Err(CompareFault::Changed);
         };
-        match self.system.has(self.out, read) {
+        match self.system.has(&self.out, read) {
             Ok(true) => {
                 self.at = Within::Ready(file);
                 Ok(())
@@ -155,6 +242,11 @@ impl<'a, S: System + Drop> Place for WithinPlace<'a, S> {
                 Err(CompareFault::Changed)
             }
             Err(ReadFault::NotOpened) => {
+                self.at = Within::Over;
+                self.failures = Tally::after(&self.failures);
+                Err(CompareFault::NotOpened)
+            }
+            Err(ReadFault::Forbidden) => {
                 self.at = Within::Over;
                 self.failures = Tally::after(&self.failures);
                 Err(CompareFault::NotOpened)

@@ -4,7 +4,7 @@ use Rattle.std.proofs.lemmas.Bool.Decides.{eqb_tells}
 use Rattle.byte_system.specs.Disk.{numbered, Disk, Event, Call, step, after, Gives, Honest}
 use Rattle.byte_system.specs.System.{own}
 use Rattle.byte_protocol.specs.Protocol.{ChangesNone}
-use Rattle.byte_protocol.specs.InPlace.{Phase, Starts, Turn, LocksOut, FindsOut, ComparesOut, EmptiesOut, WritesOut, PutsOver, DoesOther, Quits, Task, leaves_from, leads_to, turn_call, IsAside, IsModest, Doing, phases, files_after, Proceeds, last_phase, IsRound, round_calls, IsCalm, AreCalm, happened}
+use Rattle.byte_protocol.specs.InPlace.{Phase, Starts, Turn, LocksOut, FindsOut, ComparesOut, EmptiesOut, WritesOut, WritesOn, PutsOver, DoesOther, Quits, Task, leaves_from, leads_to, turn_call, IsAside, IsModest, Doing, phases, files_after, Proceeds, last_phase, IsRound, round_calls, IsCalm, AreCalm, happened}
 use Rattle.byte_protocol.specs.Together.{rest_turns, doing, doings, AreRounds}
 use Rattle.byte_protocol.proofs.Kept.{numbered_at, numbered_other}
 use Rattle.byte_protocol.proofs.Paths.{own_here, own_other, first_call, tail}
@@ -103,6 +103,7 @@ calm_modest t d k (FindsOut i) calm = tt
 calm_modest t d k (ComparesOut x i) calm = tt
 calm_modest t d k (EmptiesOut x i) calm = tt
 calm_modest t d k (WritesOut x i n) calm = tt
+calm_modest t d k (WritesOn x i n m) calm = tt
 calm_modest t d k (PutsOver x i p) calm = absurd calm
 calm_modest t d k (DoesOther s c) calm = subst (IsAside t k s d) (sym (calm d k)) (same_aside t k s d)
 calm_modest t d k (Quits s) calm = tt

@@ -114,7 +114,7 @@ halted_path j k i left read fault.NotMade now s = absurd s
 halted_path j k i left read fault.Forbidden now s = absurd s
 halted_path j k i left read fault.NewExists now s = absurd s
 halted_path j k i left read (fault.NotWritten n) now s =
-    whether_read j k read (removed_path j k read i IsPart (then_by j k (WritesPart read i n) (reserved_led j k i left) tt tt) s)
+    whether_read j k read (removed_path j k read i (IsPart n) (then_by j k (WritesPart read i n) (reserved_led j k i left) tt tt) s)
 halted_path j k i left read fault.NotSure now s = whether_read j k read (failed_path j k read i IsWhole (written_led j k i left read) s)
 halted_path j k i left read fault.NotRead now s = whether_read j k read (failed_path j k read i IsSynced (synced_led j k i left read) s)
 halted_path j k i left None fault.Changed now s = whether_read j k None (removed_path j k None i IsSynced (synced_led j k i left None) s)

@@ -1,16 +1,18 @@
 -- What holds after any events of processes that follow the protocol.
-use Rattle.std.proofs.Common.{◌≡◌, ◌≢◌, ◌⊎◌, inl, inr, ℕ, Bool, true, false, List, [], ◌∷◌, ◌++◌, Option, Some, None, take, eqb, refl, sym, ◌∙◌, ap, subst, cond, arith}
+use Rattle.std.proofs.Common.{◌≡◌, ◌≢◌, ◌⊎◌, inl, inr, ℕ, Bool, true, false, List, [], ◌∷◌, ◌++◌, Option, Some, None, take, drop, ◌+◌, eqb, refl, sym, ◌∙◌, ap, subst, cond, arith}
 use Rattle.std.proofs.lemmas.Bool.Decides.{eqb_tells, nat_tests}
+use Rattle.std.proofs.lemmas.List.{take-append-drop}
+use Rattle.std.proofs.Math.Seq.{take-add}
 use lib.Pointwise.{bytes_decides}
 use Rattle.byte_system.specs.Disk.{Content, content_of, content, named, numbered, released, Disk, Makes, Locks, Writes, Renames, Unlinks, Ends, step, after, Gives, Honest}
-use Rattle.byte_protocol.specs.Protocol.{Progress, IsWhole, IsSynced, FoundSame, IsPart, Stage, Begins, HasMade, HasLocked, Owns, Fills, HasLeft, Sweeps, Replaced, ReplacedUnread, Ended, Move, MakesNew, LocksOwn, FindsOwn, GivesUp, WritesAll, WritesPart, SyncsNew, FindsSame, Puts, PutsUnread, Withdraws, LocksLeft, FindsLeft, SweepsLeft, Strays, Forgets, Dies, Job, from, dead, to, finds_call, call_of, IsFair, file_of, IsSameFile, IsElsewhere, Deed, events, stages, Chains, AreFair, Follows, IsStart, IsReplacedBy, IsPutUnread}
+use Rattle.byte_protocol.specs.Protocol.{Progress, IsWhole, IsSynced, FoundSame, IsPart, Stage, Begins, HasMade, HasLocked, Owns, Fills, HasLeft, Sweeps, Replaced, ReplacedUnread, Ended, Move, MakesNew, LocksOwn, FindsOwn, GivesUp, WritesAll, WritesPart, WritesMore, WritesRest, SyncsNew, FindsSame, Puts, PutsUnread, Withdraws, LocksLeft, FindsLeft, SweepsLeft, Strays, Forgets, Dies, Job, from, dead, to, finds_call, call_of, IsFair, file_of, IsSameFile, IsElsewhere, Deed, events, stages, Chains, AreFair, Follows, IsStart, IsReplacedBy, IsPutUnread}
 
 -- the new file of process k has come this far
 abbrev pub Good : Job → ℕ → Disk → Content → ℕ → Progress → Type 0
 Good j k d x i IsWhole = d.bytes i ≡ j.change k x
 Good j k d x i IsSynced = d.bytes i ≡ j.change k x
 Good j k d x i FoundSame = (d.bytes i ≡ j.change k x) × (content d j.out ≡ x)
-Good j k d x i IsPart = Unit {0}
+Good j k d x i (IsPart n) = d.bytes i ≡ take n (j.change k x)
 
 -- the new name is the process's own: it has the lock of the file with that name
 pub record IsOwn (j : Job) (k : ℕ) (d : Disk) (i : ℕ) : Type 0 where
@@ -52,7 +54,7 @@ spares_good : (j : Job) (m : ℕ) (d e : Disk) → Spares j m d e → (x : Conte
 spares_good j m d e s x i made o IsWhole g = s.bytes i made ∙ g
 spares_good j m d e s x i made o IsSynced g = s.bytes i made ∙ g
 spares_good j m d e s x i made o FoundSame g = (s.bytes i made ∙ g.0, s.out i o ∙ g.1)
-spares_good j m d e s x i made o IsPart g = tt
+spares_good j m d e s x i made o (IsPart n) g = s.bytes i made ∙ g
 
 pub spared : (j : Job) (m : ℕ) (d e : Disk) → Spares j m d e → (t : Stage) → Fits j m d t → Fits j m e t
 spared j m d e s Begins f = tt
@@ -226,6 +228,10 @@ dead_fits j k d Ended = tt
 written : (d : Disk) (i : ℕ) (bs : List ℕ) → d.bytes i ≡ [] → numbered d.bytes i (d.bytes i ++ bs) i ≡ bs
 written d i bs empty = numbered_at d.bytes i (d.bytes i ++ bs) ∙ ap (λ old. old ++ bs) empty
 
+-- more bytes after those that are there
+added : (d : Disk) (i : ℕ) (bs part all : List ℕ) → d.bytes i ≡ bs → bs ++ part ≡ all → numbered d.bytes i (d.bytes i ++ part) i ≡ all
+added d i bs part all has is = numbered_at d.bytes i (d.bytes i ++ part) ∙ ap (λ old. old ++ part) has ∙ is
+
 found_same : (d : Disk) (k : ℕ) (out : List ℕ) (x : Content) → Gives d k (finds_call out x) → content d out ≡ x
 found_same d k out None g = g
 found_same d k out (Some read) g = g
@@ -251,7 +257,7 @@ alone_good : (j : Job) (k : ℕ) (d e : Disk) (x : Content) (i : ℕ) → conten
 alone_good j k d e x i out same IsWhole g = same.bytes ∙ g
 alone_good j k d e x i out same IsSynced g = same.bytes ∙ g
 alone_good j k d e x i out same FoundSame g = (same.bytes ∙ g.0, out ∙ g.1)
-alone_good j k d e x i out same IsPart g = tt
+alone_good j k d e x i out same (IsPart n) g = same.bytes ∙ g
 
 -- a process is where it was, if its own call was elsewhere
 alone : (j : Job) (k : ℕ) (d e : Disk) → e.names j.new ≡ d.names j.new → content e j.out ≡ content d j.out → (s : Stage) → ((i : ℕ) → file_of s ≡ Some i → IsSameFile i d e) → Fits j k d s → Fits j k e s
@@ -282,8 +288,16 @@ keeps j d stage k (WritesAll x i) two h f g fair =
     moved j d (step d k (Writes i (j.change k x))) stage k (Fills x i IsWhole) h (λ m ne. writes_spares j d k i m (j.change k x) f.0 f.1 ne) h.apart
     (f.0, record { held = f.1.held; named = f.1.named }, written d i (j.change k x) f.2)
 keeps j d stage k (WritesPart x i n) two h f g fair =
-    moved j d (step d k (Writes i (take n (j.change k x)))) stage k (Fills x i IsPart) h (λ m ne. writes_spares j d k i m (take n (j.change k x)) f.0 f.1 ne) h.apart
-    (f.0, record { held = f.1.held; named = f.1.named }, tt)
+    moved j d (step d k (Writes i (take n (j.change k x)))) stage k (Fills x i (IsPart n)) h (λ m ne. writes_spares j d k i m (take n (j.change k x)) f.0 f.1 ne) h.apart
+    (f.0, record { held = f.1.held; named = f.1.named }, written d i (take n (j.change k x)) f.2)
+keeps j d stage k (WritesMore x i n l) two h f g fair =
+    let c = j.change k x in
+    moved j d (step d k (Writes i (take l (drop n c)))) stage k (Fills x i (IsPart (n + l))) h (λ m ne. writes_spares j d k i m (take l (drop n c)) f.0 f.1 ne) h.apart
+    (f.0, record { held = f.1.held; named = f.1.named }, added d i (take n c) (take l (drop n c)) (take (n + l) c) f.2 (sym (take-add n l c)))
+keeps j d stage k (WritesRest x i n) two h f g fair =
+    let c = j.change k x in
+    moved j d (step d k (Writes i (drop n c))) stage k (Fills x i IsWhole) h (λ m ne. writes_spares j d k i m (drop n c) f.0 f.1 ne) h.apart
+    (f.0, record { held = f.1.held; named = f.1.named }, added d i (take n c) (drop n c) c f.2 (take-append-drop n c))
 keeps j d stage k (SyncsNew x i) two h f g fair = still j d stage k (Fills x i IsSynced) h f
 keeps j d stage k (FindsSame x i) two h f g fair =
     let e = finds_same d k j.out x in
@@ -344,6 +358,8 @@ changes j d stage k (FindsOwn i) two h f fair = inl refl
 changes j d stage k (GivesUp i) two h f fair = inl (ap (content_of d.bytes) (named_other d.names j.new None j.out (λ q. two (sym q))))
 changes j d stage k (WritesAll x i) two h f fair = inl (written_apart d i (j.change k x) (d.names j.out) (h.apart i f.1.named))
 changes j d stage k (WritesPart x i n) two h f fair = inl (written_apart d i (take n (j.change k x)) (d.names j.out) (h.apart i f.1.named))
+changes j d stage k (WritesMore x i n l) two h f fair = inl (written_apart d i (take l (drop n (j.change k x))) (d.names j.out) (h.apart i f.1.named))
+changes j d stage k (WritesRest x i n) two h f fair = inl (written_apart d i (drop n (j.change k x)) (d.names j.out) (h.apart i f.1.named))
 changes j d stage k (SyncsNew x i) two h f fair = inl refl
 changes j d stage k (FindsSame x i) two h f fair = inl (ap (λ e. content e j.out) (finds_same d k j.out x))
 changes j d stage k (Puts x i) two h f fair =

@@ -1,9 +1,9 @@
 -- What is left of OUT after a loss of power.
-use Rattle.std.proofs.Common.{◌≡◌, ◌≢◌, ◌⊎◌, inl, inr, ℕ, Bool, true, false, List, [], ◌∷◌, ◌++◌, Option, Some, None, bytes_eq, eqb, refl, sym, ◌∙◌, ap, subst, cond}
+use Rattle.std.proofs.Common.{◌≡◌, ◌≢◌, ◌⊎◌, inl, inr, ℕ, Bool, true, false, List, [], ◌∷◌, ◌++◌, Option, Some, None, take, drop, bytes_eq, eqb, refl, sym, ◌∙◌, ap, subst, cond}
 use Rattle.std.proofs.lemmas.Bool.Decides.{eqb_tells}
 use lib.Pointwise.{bytes_decides}
 use Rattle.byte_system.specs.Disk.{Content, content_of, content, named, Disk, Event, Call, Makes, Opens, Locks, Looks, Writes, Truncates, Syncs, Reads, Compares, Renames, Unlinks, SyncsFolder, Finds, Likens, Fails, Ends, step, after}
-use Rattle.byte_protocol.specs.Protocol.{IsWhole, IsSynced, FoundSame, IsPart, Stage, Begins, HasMade, HasLocked, Owns, Fills, HasLeft, Sweeps, Replaced, ReplacedUnread, Ended, Move, MakesNew, LocksOwn, FindsOwn, GivesUp, WritesAll, WritesPart, SyncsNew, FindsSame, Puts, PutsUnread, Withdraws, LocksLeft, FindsLeft, SweepsLeft, Strays, Forgets, Dies, Job, from, dead, to, finds_call, call_of, IsFair, Deed, events, stages, Follows, IsStart, AreRead}
+use Rattle.byte_protocol.specs.Protocol.{IsWhole, IsSynced, FoundSame, IsPart, Stage, Begins, HasMade, HasLocked, Owns, Fills, HasLeft, Sweeps, Replaced, ReplacedUnread, Ended, Move, MakesNew, LocksOwn, FindsOwn, GivesUp, WritesAll, WritesPart, WritesMore, WritesRest, SyncsNew, FindsSame, Puts, PutsUnread, Withdraws, LocksLeft, FindsLeft, SweepsLeft, Strays, Forgets, Dies, Job, from, dead, to, finds_call, call_of, IsFair, Deed, events, stages, Follows, IsStart, AreRead}
 use Rattle.byte_protocol.specs.Unread.{UnreadHave}
 use Rattle.byte_protocol.specs.Cuts.{clean_after, is_clean, MayLead, IsLeft, IsSince, WasAt, written, Spares, AreSparing}
 use Rattle.byte_protocol.proofs.Kept.{same_number, numbered_at, numbered_other, named_at, named_other, not_both, at_each, IsOwn, Fits, always, whole}
@@ -14,6 +14,7 @@ abbrev IsSafe : Job → Disk → List Event → Stage → Type 0
 IsSafe j first es (HasMade i) = WasAt first es j.out i → ⊥
 IsSafe j first es (HasLocked i) = WasAt first es j.out i → ⊥
 IsSafe j first es (Owns i) = WasAt first es j.out i → ⊥
+IsSafe j first es (Fills x i (IsPart n)) = WasAt first es j.out i → ⊥
 IsSafe j first es (Fills x i IsSynced) = is_clean es i ≡ true
 IsSafe j first es (Fills x i FoundSame) = is_clean es i ≡ true
 IsSafe j first es s = Unit {0}
@@ -89,6 +90,8 @@ unwritten j first es k (FindsOwn n) s sp i w e = none_is_some i e
 unwritten j first es k (GivesUp n) s sp i w e = none_is_some i e
 unwritten j first es k (WritesAll x n) s sp i w e = s (subst (WasAt first es j.out) (sym (ap or_zero e)) w)
 unwritten j first es k (WritesPart x n l) s sp i w e = s (subst (WasAt first es j.out) (sym (ap or_zero e)) w)
+unwritten j first es k (WritesMore x n l m) s sp i w e = s (subst (WasAt first es j.out) (sym (ap or_zero e)) w)
+unwritten j first es k (WritesRest x n l) s sp i w e = s (subst (WasAt first es j.out) (sym (ap or_zero e)) w)
 unwritten j first es k (SyncsNew x n) s sp i w e = none_is_some i e
 unwritten j first es k (FindsSame x n) s sp i w e = finds_unwritten j.out x i e
 unwritten j first es k (Puts x n) s sp i w e = none_is_some i e
@@ -111,6 +114,10 @@ unwritten_other j first es k (GivesUp n) f sp q i ne made o e = none_is_some i e
 unwritten_other j first es k (WritesAll x n) f sp q i ne made o e =
     not_both ((after first es).maker i) q k ne made (subst (λ a. (after first es).maker a ≡ Some k) (ap or_zero e) f.0)
 unwritten_other j first es k (WritesPart x n l) f sp q i ne made o e =
+    not_both ((after first es).maker i) q k ne made (subst (λ a. (after first es).maker a ≡ Some k) (ap or_zero e) f.0)
+unwritten_other j first es k (WritesMore x n l m) f sp q i ne made o e =
+    not_both ((after first es).maker i) q k ne made (subst (λ a. (after first es).maker a ≡ Some k) (ap or_zero e) f.0)
+unwritten_other j first es k (WritesRest x n l) f sp q i ne made o e =
     not_both ((after first es).maker i) q k ne made (subst (λ a. (after first es).maker a ≡ Some k) (ap or_zero e) f.0)
 unwritten_other j first es k (SyncsNew x n) f sp q i ne made o e = none_is_some i e
 unwritten_other j first es k (FindsSame x n) f sp q i ne made o e = finds_unwritten j.out x i e
@@ -139,6 +146,8 @@ comes j first es k (FindsOwn n) two f s fair i e = inl e
 comes j first es k (GivesUp n) two f s fair i e = inl (stays_out j (after first es).names None i two e)
 comes j first es k (WritesAll x n) two f s fair i e = inl e
 comes j first es k (WritesPart x n l) two f s fair i e = inl e
+comes j first es k (WritesMore x n l m) two f s fair i e = inl e
+comes j first es k (WritesRest x n l) two f s fair i e = inl e
 comes j first es k (SyncsNew x n) two f s fair i e = inl e
 comes j first es k (FindsSame None n) two f s fair i e = inl e
 comes j first es k (FindsSame (Some read) n) two f s fair i e = inl e
@@ -172,7 +181,7 @@ carried j first es fs k (Owns i) f was clean s = λ w. s (was i f.0 w)
 carried j first es fs k (Fills x i IsWhole) f was clean s = tt
 carried j first es fs k (Fills x i IsSynced) f was clean s = clean i f.0 f.1 s
 carried j first es fs k (Fills x i FoundSame) f was clean s = clean i f.0 f.1 s
-carried j first es fs k (Fills x i IsPart) f was clean s = tt
+carried j first es fs k (Fills x i (IsPart n)) f was clean s = λ w. s (was i f.0 w)
 carried j first es fs k (HasLeft i) f was clean s = tt
 carried j first es fs k (Sweeps i) f was clean s = tt
 carried j first es fs k (Replaced x) f was clean s = tt
@@ -211,7 +220,10 @@ own_safe j first es k (LocksOwn n) two f s fair sp = λ w. s (was_before first (
 own_safe j first es k (FindsOwn n) two f s fair sp = λ w. s (was_before first (record { by = k; call = Looks j.new n true }) es j.out n (λ e. e) w)
 own_safe j first es k (GivesUp n) two f s fair sp = tt
 own_safe j first es k (WritesAll x n) two f s fair sp = tt
-own_safe j first es k (WritesPart x n l) two f s fair sp = tt
+own_safe j first es k (WritesPart x n l) two f s fair sp = λ w. s (was_before first (record { by = k; call = Writes n (take l (j.change k x)) }) es j.out n (λ e. e) w)
+own_safe j first es k (WritesMore x n l m) two f s fair sp =
+    λ w. s (was_before first (record { by = k; call = Writes n (take m (drop l (j.change k x))) }) es j.out n (λ e. e) w)
+own_safe j first es k (WritesRest x n l) two f s fair sp = tt
 own_safe j first es k (SyncsNew x n) two f s fair sp = ap (λ q. cond q true (is_clean es n)) (same_number n)
 own_safe j first es k (FindsSame None n) two f s fair sp = s
 own_safe j first es k (FindsSame (Some read) n) two f s fair sp = s

@@ -4,7 +4,7 @@ use Rattle.std.proofs.lemmas.Bool.Decides.{eqb_tells}
 use Rattle.byte_system.specs.Disk.{numbered, Disk, Event, Call, Ends, SyncsFolder, step, after, Honest}
 use Rattle.byte_system.specs.System.{SystemState, own, calls}
 use Rattle.byte_protocol.specs.Replacing.{replacing, reserved, Replaces}
-use Rattle.byte_protocol.specs.Protocol.{Stage, Begins, Move, MakesNew, LocksOwn, FindsOwn, GivesUp, WritesAll, WritesPart, SyncsNew, FindsSame, Puts, PutsUnread, Withdraws, LocksLeft, FindsLeft, SweepsLeft, Strays, Forgets, Dies, Job, to, IsElsewhere, IsFair, Deed, events, stages, Chains, AreFair, Follows, end, IsPath, calls_of, ChangesNone, IsIdle, AreIdle, finished, rest, deed, deeds, ArePaths}
+use Rattle.byte_protocol.specs.Protocol.{Stage, Begins, Move, MakesNew, LocksOwn, FindsOwn, GivesUp, WritesAll, WritesPart, WritesMore, WritesRest, SyncsNew, FindsSame, Puts, PutsUnread, Withdraws, LocksLeft, FindsLeft, SweepsLeft, Strays, Forgets, Dies, Job, to, IsElsewhere, IsFair, Deed, events, stages, Chains, AreFair, Follows, end, IsPath, calls_of, ChangesNone, IsIdle, AreIdle, finished, rest, deed, deeds, ArePaths}
 use Rattle.byte_protocol.specs.Unread.{HasRead, HasReadIf}
 use Rattle.byte_protocol.proofs.Kept.{same_number, numbered_at, numbered_other}
 use Rattle.byte_protocol.proofs.Led.{put_led, put_then}
@@ -136,6 +136,8 @@ idle_fair j d k (FindsOwn i) idle = tt
 idle_fair j d k (GivesUp i) idle = tt
 idle_fair j d k (WritesAll x i) idle = tt
 idle_fair j d k (WritesPart x i n) idle = tt
+idle_fair j d k (WritesMore x i n m) idle = tt
+idle_fair j d k (WritesRest x i n) idle = tt
 idle_fair j d k (SyncsNew x i) idle = tt
 idle_fair j d k (FindsSame x i) idle = tt
 idle_fair j d k (Puts x i) idle = tt

@@ -1,9 +1,9 @@
 -- What holds after any turns of processes that write OUT in place, or put another file there under its lock.
-use Rattle.std.proofs.Common.{◌≡◌, ◌≢◌, ◌⊎◌, inl, inr, ℕ, true, List, [], ◌∷◌, ◌++◌, Option, Some, None, length, take, refl, sym, ◌∙◌, ap, subst, cond}
+use Rattle.std.proofs.Common.{◌≡◌, ◌≢◌, ◌⊎◌, inl, inr, ℕ, true, List, [], ◌∷◌, ◌++◌, Option, Some, None, length, take, drop, ◌+◌, refl, sym, ◌∙◌, ap, subst, cond}
 use Rattle.std.proofs.lemmas.Bool.Decides.{eqb_tells}
-use Rattle.std.proofs.Math.Seq.{take-length}
+use Rattle.std.proofs.Math.Seq.{take-length, take-add}
 use Rattle.byte_system.specs.Disk.{Content, content_of, content, numbered, named, Disk, Locks, Writes, Truncates, Renames, Ends, step, Gives}
-use Rattle.byte_protocol.specs.InPlace.{Phase, Starts, HasLock, HasOut, HasSame, HasPart, HasPut, Stopped, Turn, LocksOut, FindsOut, ComparesOut, EmptiesOut, WritesOut, PutsOver, DoesOther, Quits, Task, checked_phase, leaves_from, leads_to, turn_call, locked_in, IsAside, IsReady, IsModest, Doing, phases, files_after, Proceeds, IsEmptied, IsEmptiedUnread, HasAsRead, IsPutOver, IsFilled, sample_task, sample_files, sample_doings, pair_task, pair_files, pair_doings}
+use Rattle.byte_protocol.specs.InPlace.{Phase, Starts, HasLock, HasOut, HasSame, HasPart, HasPut, Stopped, Turn, LocksOut, FindsOut, ComparesOut, EmptiesOut, WritesOut, WritesOn, PutsOver, DoesOther, Quits, Task, checked_phase, leaves_from, leads_to, turn_call, locked_in, IsAside, IsReady, IsModest, Doing, phases, files_after, Proceeds, IsEmptied, IsEmptiedUnread, HasAsRead, IsPutOver, IsFilled, sample_task, sample_files, sample_doings, pair_task, pair_files, pair_doings}
 use Rattle.byte_protocol.proofs.Kept.{numbered_at, numbered_other, named_at, named_other, not_both, none_some, still_held}
 
 -- OUT is the process's own: it has the lock of the file to which it leads
@@ -122,6 +122,7 @@ others t d k (FindsOut i) f fair g q ne = same_left t q d
 others t d k (ComparesOut x i) f fair g q ne = same_left t q d
 others t d k (EmptiesOut x i) f fair g q ne = empties_left t d k i q (has_out t k d x i f) ne
 others t d k (WritesOut x i n) f fair g q ne = writes_left t d k i q (take n (t.change k x)) f.0 ne
+others t d k (WritesOn x i n m) f fair g q ne = writes_left t d k i q (take m (drop n (t.change k x))) f.0 ne
 others t d k (PutsOver x i p) f fair g q ne = puts_left t d k i q p (has_out t k d x i f) ne
 others t d k (DoesOther s c) f fair g q ne = aside_left t k s d (step d k c) fair q ne
 others t d k (Quits s) f fair g q ne = ends_left t d k q ne
@@ -135,6 +136,10 @@ own_suits t d k (EmptiesOut x i) f fair g = let o = has_out t k d x i f in (reco
 own_suits t d k (WritesOut x i n) f fair g =
     let bs = take n (t.change k x) in
     (record { held = f.0.held; named = f.0.named }, numbered_at d.bytes i (d.bytes i ++ bs) ∙ ap (λ old. old ++ bs) f.1)
+own_suits t d k (WritesOn x i n m) f fair g =
+    let c = t.change k x in
+    let bs = take m (drop n c) in
+    (record { held = f.0.held; named = f.0.named }, numbered_at d.bytes i (d.bytes i ++ bs) ∙ ap (λ old. old ++ bs) f.1 ∙ sym (take-add n m c))
 own_suits t d k (PutsOver x i p) f fair g = tt
 own_suits t d k (DoesOther s c) f fair g = aside t k d (step d k c) fair.at_out s fair.own f
 own_suits t d k (Quits s) f fair g = tt
@@ -195,7 +200,14 @@ turns t d k (WritesOut x i n) f fair g =
     let e = step d k (Writes i bs) in
     let mine : IsMine t k e i = record { held = f.0.held; named = f.0.named } in
     let all : e.bytes i ≡ bs = numbered_at d.bytes i (d.bytes i ++ bs) ∙ ap (λ old. old ++ bs) f.1 in
-    inr (inr (inl (record { read = x; count = n; found = (i, refl); was = mine_content t k d i f.0 ∙ ap Some f.1; made = mine_content t k e i mine ∙ ap Some all })))
+    inr (inr (inl (record { read = x; had = 0; count = n; found = (i, refl); was = mine_content t k d i f.0 ∙ ap Some f.1; made = mine_content t k e i mine ∙ ap Some all })))
+turns t d k (WritesOn x i n m) f fair g =
+    let c = t.change k x in
+    let bs = take m (drop n c) in
+    let e = step d k (Writes i bs) in
+    let mine : IsMine t k e i = record { held = f.0.held; named = f.0.named } in
+    let all : e.bytes i ≡ take (n + m) c = numbered_at d.bytes i (d.bytes i ++ bs) ∙ ap (λ old. old ++ bs) f.1 ∙ sym (take-add n m c) in
+    inr (inr (inl (record { read = x; had = n; count = n + m; found = (i, refl); was = mine_content t k d i f.0 ∙ ap Some f.1; made = mine_content t k e i mine ∙ ap Some all })))
 turns t d k (PutsOver x i p) f fair g =
     inr (inr (inr (inr (record { read = x; found = (i, p, refl); was = as_read t k d x i f; made = put_content t d k x p fair }))))
 turns t d k (DoesOther s c) f fair g = inl fair.content

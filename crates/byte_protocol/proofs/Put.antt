@@ -2,7 +2,7 @@
 use Rattle.std.proofs.Common.{◌≡◌, ◌⊎◌, inl, inr, ℕ, Bool, true, List, [], ◌∷◌, ◌++◌, Some, None, sym, ◌∙◌, ap, subst, cond}
 use Rattle.std.proofs.lemmas.Bool.Decides.{eqb_tells}
 use Rattle.byte_system.specs.Disk.{Content, content, Disk, after}
-use Rattle.byte_protocol.specs.Protocol.{Stage, Begins, HasMade, HasLocked, Owns, Fills, HasLeft, Sweeps, Replaced, ReplacedUnread, Ended, FoundSame, Move, MakesNew, LocksOwn, FindsOwn, GivesUp, WritesAll, WritesPart, SyncsNew, FindsSame, Puts, PutsUnread, Withdraws, LocksLeft, FindsLeft, SweepsLeft, Strays, Forgets, Dies, Job, from, dead, to, Deed, events, stages, Follows, IsStart, WasPut, IsRead, AreRead}
+use Rattle.byte_protocol.specs.Protocol.{Stage, Begins, HasMade, HasLocked, Owns, Fills, HasLeft, Sweeps, Replaced, ReplacedUnread, Ended, FoundSame, Move, MakesNew, LocksOwn, FindsOwn, GivesUp, WritesAll, WritesPart, WritesMore, WritesRest, SyncsNew, FindsSame, Puts, PutsUnread, Withdraws, LocksLeft, FindsLeft, SweepsLeft, Strays, Forgets, Dies, Job, from, dead, to, Deed, events, stages, Follows, IsStart, WasPut, IsRead, AreRead}
 use Rattle.byte_protocol.specs.Unread.{HasIfUnread, UnreadHave}
 use Rattle.byte_protocol.proofs.Kept.{follows_changes, Fits, always, puts_content}
 
@@ -30,6 +30,8 @@ came (FindsOwn i) x e = cc
 came (GivesUp i) x e = cc
 came (WritesAll y i) x e = cc
 came (WritesPart y i n) x e = cc
+came (WritesMore y i n m) x e = cc
+came (WritesRest y i n) x e = cc
 came (SyncsNew y i) x e = cc
 came (FindsSame y i) x e = cc
 came (Puts y i) x e = inl (i, ap (λ z. Puts z i) (ap read_in e))
@@ -74,6 +76,8 @@ read_has j P k (FindsOwn i) r = tt
 read_has j P k (GivesUp i) r = tt
 read_has j P k (WritesAll x i) r = tt
 read_has j P k (WritesPart x i n) r = tt
+read_has j P k (WritesMore x i n m) r = tt
+read_has j P k (WritesRest x i n) r = tt
 read_has j P k (SyncsNew x i) r = tt
 read_has j P k (FindsSame x i) r = tt
 read_has j P k (Puts x i) r = tt

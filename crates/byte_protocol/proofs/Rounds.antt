@@ -1,5 +1,5 @@
 -- The calls of a process that writes OUT in place are turns, one after another.
-use Rattle.std.proofs.Common.{◌≡◌, inl, inr, ℕ, Bool, true, false, List, [], ◌∷◌, Option, Some, None, length, take, refl, sym, ◌∙◌, ap, subst}
+use Rattle.std.proofs.Common.{◌≡◌, inl, inr, ℕ, Bool, true, false, List, [], ◌∷◌, Option, Some, None, length, take, drop, ◌+◌, refl, sym, ◌∙◌, ap, subst}
 use Rattle.std.proofs.Math.Seq.{take-length}
 use Rattle.byte_system.specs.Disk.{Content, Call, Opens, Locks, Looks, Writes, Truncates, Syncs, Compares, Fails}
 use Rattle.byte_protocol.specs.declared.within.WriteFault.{WriteFault}
@@ -7,7 +7,7 @@ use Rattle.byte_protocol.specs.declared.within.WriteFault.TheVariants as fault
 use Rattle.byte_protocol.specs.Protocol.{ChangesNone}
 use Rattle.byte_protocol.specs.Replacing.{entered, compared, Denies, Disowns, Unentered}
 use Rattle.byte_protocol.specs.Overwriting.{filling, overwriting, Spills, Falters}
-use Rattle.byte_protocol.specs.InPlace.{Phase, Starts, HasLock, HasOut, HasSame, HasPart, Turn, LocksOut, FindsOut, ComparesOut, EmptiesOut, WritesOut, DoesOther, Task, checked_phase, leaves_from, leads_to, turn_call, last_phase, IsRound, round_calls, IsCalm, AreCalm, IsReadTurn, AreReadTurns, AreReadUnless, is_unread, MayEmpty, Reaches}
+use Rattle.byte_protocol.specs.InPlace.{Phase, Starts, HasLock, HasOut, HasSame, HasPart, Turn, LocksOut, FindsOut, ComparesOut, EmptiesOut, WritesOut, WritesOn, DoesOther, Task, checked_phase, leaves_from, leads_to, turn_call, last_phase, IsRound, round_calls, IsCalm, AreCalm, IsReadTurn, AreReadTurns, AreReadUnless, is_unread, MayEmpty, Reaches}
 
 pub nothing_done : (t : Task) (k : ℕ) → Reaches t k false Starts []
 nothing_done t k = record { turns = []; round = tt; calm = tt; seen = tt; ends = refl; calls = refl }
@@ -55,7 +55,7 @@ checked_gone t k i (Some x) g = one_more t k false (ComparesOut x i) g tt tt
 emptied_seen : (u : Bool) (i : ℕ) (ms : List Turn) → u ≡ true → AreReadUnless u (EmptiesOut None i ∷ ms)
 emptied_seen u i ms e = subst (λ b. AreReadUnless b (EmptiesOut None i ∷ ms)) (sym e) tt
 
-emptied_gone : (t : Task) (k i : ℕ) (u : Bool) (read : Content) (before : List Call) → MayEmpty u read → Reaches t k false (checked_phase read i) before
+pub emptied_gone : (t : Task) (k i : ℕ) (u : Bool) (read : Content) (before : List Call) → MayEmpty u read → Reaches t k false (checked_phase read i) before
     → Reaches t k u (HasPart read i 0) (Truncates i ∷ before)
 emptied_gone t k i u None before may g = record {
   turns = EmptiesOut None i ∷ g.turns;
@@ -70,6 +70,11 @@ emptied_gone t k i u (Some x) before may g = one_more t k u (EmptiesOut (Some x)
 part_gone : (t : Task) (k i n : ℕ) (u : Bool) (read : Content) (before : List Call) → MayEmpty u read → Reaches t k false (checked_phase read i) before
     → Reaches t k u (HasPart read i n) (Writes i (take n (t.change k read)) ∷ Truncates i ∷ before)
 part_gone t k i n u read before may g = one_more t k u (WritesOut read i n) (emptied_gone t k i u read before may g) tt tt
+
+-- more bytes after the first n
+pub written_on : (t : Task) (k i n m : ℕ) (u : Bool) (x : Content) {before : List Call} → Reaches t k u (HasPart x i n) before
+    → Reaches t k u (HasPart x i (n + m)) (Writes i (take m (drop n (t.change k x))) ∷ before)
+written_on t k i n m u x g = one_more t k u (WritesOn x i n m) g tt tt
 
 -- all bytes are the first ones, as many as there are
 all_gone : (t : Task) (k i : ℕ) (u : Bool) (read : Content) (before : List Call) → MayEmpty u read → Reaches t k false (checked_phase read i) before

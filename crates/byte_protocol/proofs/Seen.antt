@@ -2,7 +2,7 @@
 use Rattle.std.proofs.Common.{◌≡◌, ◌⊎◌, inl, inr, ℕ, Bool, true, List, [], ◌∷◌, ◌++◌, Some, None, refl, sym, ◌∙◌, ap, subst, cond}
 use Rattle.std.proofs.lemmas.Bool.Decides.{eqb_tells}
 use Rattle.byte_system.specs.Disk.{Content, content, Disk, Event, Reads, numbered, after, Honest}
-use Rattle.byte_protocol.specs.Protocol.{Stage, Begins, HasMade, HasLocked, Owns, Fills, HasLeft, Sweeps, Replaced, ReplacedUnread, Ended, IsSynced, Move, MakesNew, LocksOwn, FindsOwn, GivesUp, WritesAll, WritesPart, SyncsNew, FindsSame, Puts, PutsUnread, Withdraws, LocksLeft, FindsLeft, SweepsLeft, Strays, Forgets, Dies, Job, from, dead, to, Deed, events, stages, Follows, IsStart, AreRead, AreIdle, end, rest, deed, deeds, ArePaths}
+use Rattle.byte_protocol.specs.Protocol.{Stage, Begins, HasMade, HasLocked, Owns, Fills, HasLeft, Sweeps, Replaced, ReplacedUnread, Ended, IsSynced, Move, MakesNew, LocksOwn, FindsOwn, GivesUp, WritesAll, WritesPart, WritesMore, WritesRest, SyncsNew, FindsSame, Puts, PutsUnread, Withdraws, LocksLeft, FindsLeft, SweepsLeft, Strays, Forgets, Dies, Job, from, dead, to, Deed, events, stages, Follows, IsStart, AreRead, AreIdle, end, rest, deed, deeds, ArePaths}
 use Rattle.byte_protocol.specs.Unread.{UnreadHave, WasPutUnread, HasRead}
 use Rattle.byte_protocol.proofs.Kept.{Fits, always, unread_content, whole}
 use Rattle.byte_protocol.proofs.Put.{fewer, stays, later_have, earlier_have, bit_kept}
@@ -33,6 +33,8 @@ came_unread (FindsOwn i) e = cc
 came_unread (GivesUp i) e = cc
 came_unread (WritesAll x i) e = cc
 came_unread (WritesPart x i n) e = cc
+came_unread (WritesMore x i n m) e = cc
+came_unread (WritesRest x i n) e = cc
 came_unread (SyncsNew x i) e = cc
 came_unread (FindsSame x i) e = cc
 came_unread (Puts x i) e = cc

@@ -2,7 +2,7 @@
 use Rattle.std.proofs.Common.{◌≡◌, ◌≢◌, inl, inr, ℕ, Bool, true, false, List, [], ◌∷◌, Option, Some, None, take, refl, sym, ◌∙◌, ap, cond}
 use Rattle.byte_system.specs.Disk.{Content, content_of, content, numbered, Disk, Event, Syncs, step, after, Gives}
 use Rattle.byte_protocol.specs.Cuts.{is_clean, MayLead, IsLeft}
-use Rattle.byte_protocol.specs.InPlace.{HasPart, Turn, LocksOut, FindsOut, ComparesOut, EmptiesOut, WritesOut, PutsOver, DoesOther, Quits, Task, turn_call, IsModest, Doing, files_after, Proceeds, happened, IsWithin, AreWithin}
+use Rattle.byte_protocol.specs.InPlace.{HasPart, Turn, LocksOut, FindsOut, ComparesOut, EmptiesOut, WritesOut, WritesOn, PutsOver, DoesOther, Quits, Task, turn_call, IsModest, Doing, files_after, Proceeds, happened, IsWithin, AreWithin}
 use Rattle.byte_protocol.proofs.Kept.{same_number, numbered_at, numbered_other}
 use Rattle.byte_protocol.proofs.Doings.{happened_files}
 use Rattle.byte_protocol.proofs.Proceeding.{has_out_at, part_stays}
@@ -14,6 +14,7 @@ stays_at t d k (FindsOut i) fair w = refl
 stays_at t d k (ComparesOut x i) fair w = refl
 stays_at t d k (EmptiesOut x i) fair w = refl
 stays_at t d k (WritesOut x i n) fair w = refl
+stays_at t d k (WritesOn x i n m) fair w = refl
 stays_at t d k (PutsOver x i p) fair w = absurd w
 stays_at t d k (DoesOther s c) fair w = fair.at_out
 stays_at t d k (Quits s) fair w = refl

@@ -1,6 +1,6 @@
 -- What a process that writes OUT in place does, call by call, and any number of such processes. One that replaces OUT by another file
 -- has the lock of OUT, too.
-use Rattle.std.specs.Prelude.{◌≡◌, ◌≢◌, ℕ, Bool, true, false, List, [], ◌∷◌, ◌++◌, Option, Some, None, take}
+use Rattle.std.specs.Prelude.{◌≡◌, ◌≢◌, ℕ, Bool, true, false, List, [], ◌∷◌, ◌++◌, ◌+◌, Option, Some, None, take, drop}
 use Rattle.byte_system.specs.Disk.{Content, content, Disk, Event, Call, Locks, Looks, Writes, Truncates, Compares, Renames, Ends, step, named, numbered, Gives}
 use Rattle.byte_protocol.specs.Protocol.{ChangesNone}
 
@@ -25,6 +25,8 @@ pub data Turn : Type 0 where
   ComparesOut : (x : List ℕ) (i : ℕ) → Turn
   EmptiesOut : (x : Content) (i : ℕ) → Turn
   WritesOut : (x : Content) (i n : ℕ) → Turn
+  -- the m bytes after the first n
+  WritesOn : (x : Content) (i n m : ℕ) → Turn
   -- the file with another name is put in the place of OUT
   PutsOver : (x : Content) (i : ℕ) (new : List ℕ) → Turn
   -- any call on other files, or one that changes no file
@@ -48,6 +50,7 @@ leaves_from (FindsOut i) = HasLock i
 leaves_from (ComparesOut x i) = HasOut i
 leaves_from (EmptiesOut x i) = checked_phase x i
 leaves_from (WritesOut x i n) = HasPart x i 0
+leaves_from (WritesOn x i n m) = HasPart x i n
 leaves_from (PutsOver x i new) = checked_phase x i
 leaves_from (DoesOther s c) = s
 leaves_from (Quits s) = s
@@ -58,6 +61,7 @@ leads_to (FindsOut i) = HasOut i
 leads_to (ComparesOut x i) = HasSame x i
 leads_to (EmptiesOut x i) = HasPart x i 0
 leads_to (WritesOut x i n) = HasPart x i n
+leads_to (WritesOn x i n m) = HasPart x i (n + m)
 leads_to (PutsOver x i new) = HasPut
 leads_to (DoesOther s c) = s
 leads_to (Quits s) = Stopped
@@ -69,6 +73,7 @@ turn_call t k (FindsOut i) = Looks t.out i true
 turn_call t k (ComparesOut x i) = Compares t.out x true
 turn_call t k (EmptiesOut x i) = Truncates i
 turn_call t k (WritesOut x i n) = Writes i (take n (t.change k x))
+turn_call t k (WritesOn x i n m) = Writes i (take m (drop n (t.change k x)))
 turn_call t k (PutsOver x i new) = Renames new t.out
 turn_call t k (DoesOther s c) = c
 turn_call t k (Quits s) = Ends
@@ -141,12 +146,13 @@ pub record IsPutOver (t : Task) (k : ℕ) (turn : Turn) (old new : Disk) : Type 
   pub was : HasAsRead read (content old t.out)
   pub made : content new t.out ≡ Some (t.change k read)
 
--- a process wrote the first n bytes of what it makes of what it had read to OUT, which it had emptied
+-- a process wrote more of what it makes of what it had read to OUT, which had the first bytes of that; none, if it was just emptied
 pub record IsFilled (t : Task) (k : ℕ) (phase : Phase) (old new : Disk) : Type 0 where
   pub read : Content
+  pub had : ℕ
   pub count : ℕ
-  pub found : (i : ℕ) × (phase ≡ HasPart read i 0)
-  pub was : content old t.out ≡ Some []
+  pub found : (i : ℕ) × (phase ≡ HasPart read i had)
+  pub was : content old t.out ≡ Some (take had (t.change k read))
   pub made : content new t.out ≡ Some (take count (t.change k read))
 
 -- the turns of one process, the last one first

@@ -1,5 +1,5 @@
 -- What a process that replaces OUT does, call by call, and any number of such processes.
-use Rattle.std.specs.Prelude.{◌≡◌, ◌≢◌, ℕ, true, List, [], ◌∷◌, ◌++◌, Option, Some, None, take}
+use Rattle.std.specs.Prelude.{◌≡◌, ◌≢◌, ℕ, true, List, [], ◌∷◌, ◌++◌, ◌+◌, Option, Some, None, take, drop}
 use Rattle.byte_system.specs.Disk.{Content, content, Disk, Event, Call, Makes, Locks, Looks, Writes, Syncs, Reads, Compares, Renames, Unlinks, Ends, step, after, numbered, Honest, SyncsFolder}
 use Rattle.byte_system.specs.System.{own}
 
@@ -9,8 +9,8 @@ pub data Progress : Type 0 where
   IsSynced : Progress
   -- since it was made, OUT was found to be the file that was read
   FoundSame : Progress
-  -- it has a part of the bytes
-  IsPart : Progress
+  -- it has the first n of the bytes
+  IsPart : (n : ℕ) → Progress
 
 -- how far a process has come. i is a file, x is the content of OUT that it has read
 pub data Stage : Type 0 where
@@ -38,6 +38,9 @@ pub data Move : Type 0 where
   GivesUp : (i : ℕ) → Move
   WritesAll : (x : Content) (i : ℕ) → Move
   WritesPart : (x : Content) (i n : ℕ) → Move
+  -- the m bytes after the first n, or all bytes after them
+  WritesMore : (x : Content) (i n m : ℕ) → Move
+  WritesRest : (x : Content) (i n : ℕ) → Move
   SyncsNew : (x : Content) (i : ℕ) → Move
   FindsSame : (x : Content) (i : ℕ) → Move
   Puts : (x : Content) (i : ℕ) → Move
@@ -67,6 +70,8 @@ from (FindsOwn i) = HasLocked i
 from (GivesUp i) = Owns i
 from (WritesAll x i) = Owns i
 from (WritesPart x i n) = Owns i
+from (WritesMore x i n m) = Fills x i (IsPart n)
+from (WritesRest x i n) = Fills x i (IsPart n)
 from (SyncsNew x i) = Fills x i IsWhole
 from (FindsSame x i) = Fills x i IsSynced
 from (Puts x i) = Fills x i FoundSame
@@ -91,7 +96,9 @@ to (LocksOwn i) = HasLocked i
 to (FindsOwn i) = Owns i
 to (GivesUp i) = Ended
 to (WritesAll x i) = Fills x i IsWhole
-to (WritesPart x i n) = Fills x i IsPart
+to (WritesPart x i n) = Fills x i (IsPart n)
+to (WritesMore x i n m) = Fills x i (IsPart (n + m))
+to (WritesRest x i n) = Fills x i IsWhole
 to (SyncsNew x i) = Fills x i IsSynced
 to (FindsSame x i) = Fills x i FoundSame
 to (Puts x i) = Replaced x
@@ -117,6 +124,8 @@ call_of j k (FindsOwn i) = Looks j.new i true
 call_of j k (GivesUp i) = Unlinks j.new
 call_of j k (WritesAll x i) = Writes i (j.change k x)
 call_of j k (WritesPart x i n) = Writes i (take n (j.change k x))
+call_of j k (WritesMore x i n m) = Writes i (take m (drop n (j.change k x)))
+call_of j k (WritesRest x i n) = Writes i (drop n (j.change k x))
 call_of j k (SyncsNew x i) = Syncs i
 call_of j k (FindsSame x i) = finds_call j.out x
 call_of j k (Puts x i) = Renames j.new j.out

@@ -10,7 +10,8 @@ ghost use Rattle.byte_protocol.specs.InPlace.{Task, Turn, Doing, HasPart, phases
 ghost use Rattle.byte_protocol.specs.Together.{doings, AreRounds};
 
 /// Each call leaves the content of OUT. Or a process that has the lock of OUT empties it, or puts another file in its place: if it has
-/// read OUT, OUT has exactly what it had read. Or a process writes to OUT, which it has emptied, the first bytes of what it makes of that.
+/// read OUT, OUT has exactly what it had read. Or a process, which has emptied OUT, writes more of what it makes of that there, so OUT has
+/// the first bytes of it.
 pub fn what_was_read_is_overwritten()
     ensures { (t : Task) (first : Disk) (es : List Doing) (e : Doing) → Proceeds t first (e ∷ es) →
         let old = files_after t first es in let new = files_after t first (e ∷ es) in

@@ -32,6 +32,18 @@ pub enum Fault {
     NotSynced,
 }
 
+/// Why a file is not this process's own.
+#[derive(Clone, Copy, Debug, PartialEq, Eq)]
+pub enum EntryFault {
+    NotOpened,
+    /// Another process has its lock.
+    Held,
+    /// Its lock could not be asked for, as where the file system has no locks.
+    NotLocked,
+    /// The name leads to another file, or it could not be looked at.
+    NotNamed,
+}
+
 /// The new file that a process has made, and the one that a stopped process had left.
 #[derive(Clone, Copy, Debug, PartialEq, Eq)]
 pub struct Made {
@@ -108,36 +120,36 @@ fn make_new<S: System>(system: &mut S, new: &[u8], mode: Mode) -> Result<Made, F
 }
 
 // Locks the file, and then looks whether the name leads to it.
-fn own<S: System>(system: &mut S, new: &[u8], file: usize) -> Result<(), Failed>
+fn own<S: System>(system: &mut S, new: &[u8], file: usize) -> Result<(), EntryFault>
     ensures goes { GoesOn (S.state system.old) (S.state system.new) }
     ensures ok { OnOk result (calls (S.state system.new) ≡ Looks new.now file true ∷ Locks file true ∷ calls (S.state system.old)) }
     ensures err { OnErr result (Disowns new.now file (calls (S.state system.old)) (calls (S.state system.new))) }
 {
     match system.lock(file) {
         Ok(true) => {}
-        Ok(false) => return Err(Failed),
-        Err(_) => return Err(Failed),
+        Ok(false) => return Err(EntryFault::Held),
+        Err(_) => return Err(EntryFault::NotLocked),
     }
     match system.is_named(new, file) {
         Ok(true) => Ok(()),
-        Ok(false) => Err(Failed),
-        Err(_) => Err(Failed),
+        Ok(false) => Err(EntryFault::NotNamed),
+        Err(_) => Err(EntryFault::NotNamed),
     }
 }
 
 /// Opens the file with the name and locks it, and then looks whether the name leads to it.
-pub fn enter<S: System>(system: &mut S, path: &[u8]) -> Result<usize, Failed>
+pub fn enter<S: System>(system: &mut S, path: &[u8]) -> Result<usize, EntryFault>
     ensures goes { GoesOn (S.state system.old) (S.state system.new) }
     ensures ok { IfOk result (λ i. calls (S.state system.new) ≡ entered path.now i (calls (S.state system.old))) }
     ensures err { OnErr result (Unentered path.now (calls (S.state system.old)) (calls (S.state system.new))) }
 {
     let file = match system.open(path) {
         Ok(file) => file,
-        Err(_) => return Err(Failed),
+        Err(_) => return Err(EntryFault::NotOpened),
     };
     match own(system, path, file) {
         Ok(()) => Ok(file),
-        Err(_) => Err(Failed),
+        Err(fault) => Err(fault),
     }
 }
 

@@ -1,6 +1,6 @@
 //! The files of the system. What a call does there is read, not proved: each function makes the calls of its name, and notes them.
 
-ghost use Rattle.std.specs.Prelude.{◌≡◌, ◌≤◌, [], None, length};
+ghost use Rattle.std.specs.Prelude.{◌≡◌, ◌≤◌, [], None, IfOk, length};
 ghost use Rattle.byte_system.specs.System.{Took};
 ghost use Rattle.byte_system.specs.Noted.{call_said};
 
@@ -8,32 +8,46 @@ use crate::host_answers::{make_fault, permissions, rename_fault, there_is};
 use crate::system::{Failed, FolderFault, MakeFault, Mode, ReadFault, RenameFault, System, There};
 use crate::trail::{Note, Said, Trail};
 use byte_out::make_alike;
-use std::alloc::Global;
+use std::alloc::{AllocError, Global};
 use std::fs::{self, File, Metadata, OpenFile, OpenOptions, TryLockError};
 use std::io::{ErrorKind, Read, Write};
 use std::os::unix::fs::{MetadataExt, OpenOptionsExt};
 use std::rt::Files;
 use std::str;
 
+/// How many files can be open at first. A place opens the old file, one that a stopped process left, and the new one.
+const ROOM: usize = 4;
+
+// An open file, and whether this process made it.
+#[derive(Drop)]
+struct Opened {
+    file: File,
+    is_made: bool,
+}
+
 /// The files of the system, as this process sees them. An open file has the number of its place among those that the process has
 /// opened; a file that is opened again keeps its number.
 #[derive(Drop)]
 pub struct HostSystem<'a, R> {
     rt: &'a R,
-    open: Vec<File>,
+    open: Vec<Opened>,
     trail: Trail,
 }
 
 impl<'a, R: Files<File = File>> HostSystem<'a, R> {
-    /// The files of the system, of which none is open.
-    pub fn new(alloc: Global, rt: &'a R) -> HostSystem<'a, R>
-        ensures { ⟦<HostSystem<'a, R> as System>⟧.state result ≡ record { me = 0; first = None; trace = [] } }
+    /// The files of the system, of which none is open. A few can be opened without more memory.
+    pub fn new(alloc: Global, rt: &'a R) -> Result<HostSystem<'a, R>, AllocError>
+        ensures { IfOk result (λ s. ⟦<HostSystem<'a, R> as System>⟧.state s ≡ record { me = 0; first = None; trace = [] }) }
     {
-        HostSystem {
+        let open = match Vec::with_capacity(alloc, ROOM) {
+            Ok(open) => open,
+            Err(_) => return Err(AllocError),
+        };
+        Ok(HostSystem {
             rt,
-            open: Vec::new(alloc),
+            open,
             trail: Trail::new(),
-        }
+        })
     }
 
     // Notes a call of this process.
@@ -44,18 +58,18 @@ impl<'a, R: Files<File = File>> HostSystem<'a, R> {
     }
 
     // The number of an open file.
-    fn number(&mut self, file: File) -> Option<usize>
+    fn number(&mut self, file: File, is_made: bool) -> Option<usize>
         ensures { self.new.trail ≡ self.old.trail }
     {
         let opened = file.metadata().ok()?;
         for (i, other) in self.open.iter().enumerate() {
-            match other.metadata() {
+            match other.file.metadata() {
                 Ok(there) if is_same(&there, &opened) => return Some(i),
                 _ => {}
             }
         }
         let number = self.open.len();
-        self.open.push(file).ok()?;
+        self.open.push(Opened { file, is_made }).ok()?;
         Some(number)
     }
 }
@@ -87,7 +101,7 @@ fn write_to(file: &mut File, bytes: &[u8]) -> usize
 // Whether the file gives exactly these bytes.
 fn gives(file: &mut File, bytes: &[u8]) -> Result<bool, ReadFault> {
     let mut rest = bytes;
-    let mut chunk = [0; 4_096];
+    let mut chunk = [0; 16_384];
     for _ in 0..u64::MAX {
         let n = match file.read(&mut chunk) {
             Ok(n) => n,
@@ -126,7 +140,7 @@ impl<'a, R: Files<File = File>> HostSystem<'a, R> {
 
     fn likens(&self, file: usize, path: &[u8]) -> Option<bool> {
         let old = fs::symlink_metadata(self.rt, str::from_utf8(path).ok()?).ok()?;
-        make_alike(self.open.get(file)?, &old).ok()
+        make_alike(&self.open.get(file)?.file, &old).ok()
     }
 
     fn make_at(&mut self, path: &[u8], mode: Mode) -> Result<usize, MakeFault>
@@ -154,7 +168,7 @@ impl<'a, R: Files<File = File>> HostSystem<'a, R> {
     fn number_made(&mut self, file: File, path: &str) -> Result<usize, MakeFault>
         ensures { self.new.trail ≡ self.old.trail }
     {
-        let Some(number) = self.number(file) else {
+        let Some(number) = self.number(file, true) else {
             let _ = fs::remove_file(self.rt, path);
             return Err(MakeFault::NotMade);
         };
@@ -166,19 +180,22 @@ impl<'a, R: Files<File = File>> HostSystem<'a, R> {
     {
         let path = str::from_utf8(path).ok()?;
         let file = OpenOptions::new().append(true).open(self.rt, path).ok()?;
-        self.number(file)
+        self.number(file, false)
     }
 
+    // Where the file system has no locks, whoever made a file has its lock, and nobody else gets it.
     fn is_locked(&self, file: usize) -> Option<bool> {
-        match self.open.get(file)?.try_lock() {
+        let opened = self.open.get(file)?;
+        match opened.file.try_lock() {
             Ok(()) => Some(true),
             Err(TryLockError::WouldBlock) => Some(false),
+            Err(TryLockError::Error(_)) if opened.is_made => Some(true),
             Err(TryLockError::Error(_)) => None,
         }
     }
 
     fn is_at(&self, path: &[u8], file: usize) -> Option<bool> {
-        let opened = self.open.get(file)?.metadata().ok()?;
+        let opened = self.open.get(file)?.file.metadata().ok()?;
         match fs::symlink_metadata(self.rt, str::from_utf8(path).ok()?) {
             Ok(there) => Some(is_same(&there, &opened)),
             Err(error) if error.kind() == ErrorKind::NotFound => Some(false),
@@ -192,8 +209,11 @@ impl<'a, R: Files<File = File>> HostSystem<'a, R> {
         };
         match fs::open(self.rt, path) {
             Ok(mut file) => gives(&mut file, bytes),
-            Err(error) if error.kind() == ErrorKind::NotFound => Ok(false),
-            Err(_) => Err(ReadFault::NotOpened),
+            Err(error) => match error.kind() {
+                ErrorKind::NotFound => Ok(false),
+                ErrorKind::PermissionDenied => Err(ReadFault::Forbidden),
+                _ => Err(ReadFault::NotOpened),
+            },
         }
     }
 
@@ -318,7 +338,7 @@ impl<R: Files<File = File>> System for HostSystem<'_, R> {
 
     fn write(&mut self, file: usize, bytes: &[u8]) -> usize {
         let written = match self.open.get_mut(file) {
-            Some(file) => write_to(file, bytes),
+            Some(opened) => write_to(&mut opened.file, bytes),
             None => 0,
         };
         self.note(Said::Writes(file, &bytes[..written]));
@@ -327,7 +347,7 @@ impl<R: Files<File = File>> System for HostSystem<'_, R> {
 
     fn truncate(&mut self, file: usize) -> Result<(), Failed> {
         let is_empty = match self.open.get(file) {
-            Some(file) => file.set_len(0).is_ok(),
+            Some(opened) => opened.file.set_len(0).is_ok(),
             None => false,
         };
         if !is_empty {
@@ -340,7 +360,7 @@ impl<R: Files<File = File>> System for HostSystem<'_, R> {
 
     fn sync(&mut self, file: usize) -> Result<(), Failed> {
         let is_synced = match self.open.get(file) {
-            Some(file) => file.sync_all().is_ok(),
+            Some(opened) => opened.file.sync_all().is_ok(),
             None => false,
         };
         if !is_synced {

@@ -37,6 +37,8 @@ pub enum There {
 #[derive(Clone, Copy, Debug, PartialEq, Eq)]
 pub enum ReadFault {
     NotOpened,
+    /// It may not be read.
+    Forbidden,
     /// Reading failed after this many bytes, which were the same.
     Cut(usize),
 }

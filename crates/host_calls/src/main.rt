@@ -14,7 +14,7 @@ use byte_system::HostSystem;
 use std::io;
 
 fn main(rt: HostRuntime) -> io::Result<()> {
-    let mut system = HostSystem::new(rt.alloc(), &rt);
+    let mut system = HostSystem::new(rt.alloc(), &rt)?;
     for _ in 0..u64::MAX {
         let mut line = String::new(rt.alloc());
         if rt.read_line(&mut line)? == 0 {

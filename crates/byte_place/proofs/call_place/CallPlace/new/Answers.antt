@@ -6,4 +6,4 @@ use Rattle.byte_place.proofs.call_place.CallPlace.new.Goals as goal
 pub invariant_of-result : goal.invariant_of-result
 invariant_of-result g c =
     let a = c.args in
-    record { course = ∣ begins a.out.now a.beside.now c.empty.result.bytes false (calls (g.S.System.state a.system)) c.empty.ensures c.requires ∣₁ }
+    record { course = ∣ begins a.out.items a.beside.items c.empty.result.bytes false (calls (g.S.System.state a.system)) c.empty.ensures c.requires ∣₁ }

@@ -11,8 +11,8 @@ invariant_of-self-in-Ok g c =
     let p = c.args.self.now in
     let old = calls (g.S.System.state p.system) in
     let new = calls (g.S.System.state c.sync_folder.new.self) in
-    let e : new ≡ SyncsFolder p.out.now ∷ old = search rules in
-    record { course = as_at p.out.now p.beside.now p.taken.bytes p.unread at.Put p.at new (sym c.in-Put.is) (∥∥₁_map (as_at p.out.now p.beside.now p.taken.bytes p.unread p.at at.Put old c.in-Put.is p.course) (λ k. landed p.out.now p.beside.now p.taken.bytes p.unread (SyncsFolder p.out.now) old new (λ d m. refl) k e)) }
+    let e : new ≡ SyncsFolder p.out.items ∷ old = search rules in
+    record { course = as_at p.out.items p.beside.items p.taken.bytes p.unread at.Put p.at new (sym c.in-Put.is) (∥∥₁_map (as_at p.out.items p.beside.items p.taken.bytes p.unread p.at at.Put old c.in-Put.is p.course) (λ k. landed p.out.items p.beside.items p.taken.bytes p.unread (SyncsFolder p.out.items) old new (λ d m. refl) k e)) }
 
 pub invariant_of-self-in-Err-Forbidden : goal.invariant_of-self-in-Err-Forbidden
 invariant_of-self-in-Err-Forbidden g c =
@@ -20,7 +20,7 @@ invariant_of-self-in-Err-Forbidden g c =
     let old = calls (g.S.System.state p.system) in
     let new = calls (g.S.System.state c.sync_folder.new.self) in
     let e : new ≡ Fails ∷ old = search rules in
-    record { course = as_at p.out.now p.beside.now p.taken.bytes p.unread at.Put p.at new (sym c.in-Put.is) (∥∥₁_map (as_at p.out.now p.beside.now p.taken.bytes p.unread p.at at.Put old c.in-Put.is p.course) (λ k. landed p.out.now p.beside.now p.taken.bytes p.unread Fails old new (λ d m. refl) k e)) }
+    record { course = as_at p.out.items p.beside.items p.taken.bytes p.unread at.Put p.at new (sym c.in-Put.is) (∥∥₁_map (as_at p.out.items p.beside.items p.taken.bytes p.unread p.at at.Put old c.in-Put.is p.course) (λ k. landed p.out.items p.beside.items p.taken.bytes p.unread Fails old new (λ d m. refl) k e)) }
 
 pub invariant_of-self-in-Err : goal.invariant_of-self-in-Err
 invariant_of-self-in-Err g c =
@@ -28,4 +28,4 @@ invariant_of-self-in-Err g c =
     let old = calls (g.S.System.state p.system) in
     let new = calls (g.S.System.state c.sync_folder.new.self) in
     let e : new ≡ Fails ∷ old = search rules in
-    record { course = as_at p.out.now p.beside.now p.taken.bytes p.unread at.Put p.at new (sym c.in-Put.is) (∥∥₁_map (as_at p.out.now p.beside.now p.taken.bytes p.unread p.at at.Put old c.in-Put.is p.course) (λ k. landed p.out.now p.beside.now p.taken.bytes p.unread Fails old new (λ d m. refl) k e)) }
+    record { course = as_at p.out.items p.beside.items p.taken.bytes p.unread at.Put p.at new (sym c.in-Put.is) (∥∥₁_map (as_at p.out.items p.beside.items p.taken.bytes p.unread p.at at.Put old c.in-Put.is p.course) (λ k. landed p.out.items p.beside.items p.taken.bytes p.unread Fails old new (λ d m. refl) k e)) }

@@ -9,4 +9,4 @@ invariant_of-self g c =
     let p = c.args.self.now in
     let i = c.in-Locked.file in
     let old = calls (g.S.System.state p.system) in
-    record { course = ∥∥₁_map (turns_at p.out.now p.got.bytes p.unread p.at (within.Locked i) old c.in-Locked.is p.course) (λ k. unread_ready p.out.now p.got.bytes p.unread i old k) }
+    record { course = ∥∥₁_map (turns_at p.out.items p.got.bytes p.unread p.at (within.Locked i) old c.in-Locked.is p.course) (λ k. unread_ready p.out.items p.got.bytes p.unread i old k) }

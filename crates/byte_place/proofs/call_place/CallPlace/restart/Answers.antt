@@ -1,0 +1,9 @@
+use Rattle.std.proofs.Common.{false}
+use Rattle.byte_system.specs.System.{calls}
+use Rattle.byte_place.proofs.Courses.{begins}
+use Rattle.byte_place.proofs.call_place.CallPlace.restart.Goals as goal
+
+pub invariant_of-self : goal.invariant_of-self
+invariant_of-self g c =
+    let p = c.args.self.now in
+    record { course = ∣ begins p.out.items p.beside.items c.empty-self.result.bytes false (calls (g.S.System.state c.args.system)) c.empty-self.ensures c.requires ∣₁ }

@@ -1,0 +1,72 @@
+//! Where a path leads, and what is there. This only looks.
+
+use byte_out::{Lock, Lockable};
+use std::alloc::{AllocError, Global};
+use std::fs;
+use std::io::ErrorKind;
+use std::os::unix::fs::MetadataExt;
+use std::rt::Files;
+
+/// Where a path leads.
+pub(crate) enum Led {
+    /// To a plain file, through any number of links.
+    To(String),
+    /// It is no link to a plain file.
+    Itself,
+    /// It is a link, and the system does not tell where it leads.
+    Unknown,
+}
+
+/// Where a path leads. Paths below /dev and /proc are the system's own names of open files.
+pub(crate) fn leads<R: Files>(alloc: Global, rt: &R, path: &str) -> Result<Led, AllocError> {
+    if path.starts_with("/dev/") || path.starts_with("/proc/") {
+        return Ok(Led::Itself);
+    }
+    match fs::symlink_metadata(rt, path) {
+        Ok(there) if there.is_symlink() => {}
+        _ => return Ok(Led::Itself),
+    }
+    match fs::metadata(rt, path) {
+        Ok(end) if end.is_file() => {}
+        Ok(_) => return Ok(Led::Itself),
+        Err(error) if error.kind() == ErrorKind::NotFound => return Ok(Led::Itself),
+        Err(_) => return Ok(Led::Unknown),
+    }
+    match rt.canonicalize(alloc, path) {
+        Ok(real) => Ok(Led::To(real.into_string())),
+        Err(error) if error.kind() == ErrorKind::OutOfMemory => Err(AllocError),
+        Err(_) => Ok(Led::Unknown),
+    }
+}
+
+/// Whether another command writes the file at this path in place. A shared lock is taken for a moment.
+pub(crate) fn is_written<R: Files>(rt: &R, path: &str) -> bool
+where
+    R::File: Lockable,
+{
+    match fs::open(rt, path) {
+        Ok(file) => file.lock_shared() == Lock::Held,
+        Err(_) => false,
+    }
+}
+
+/// What has the name.
+#[derive(Clone, Copy, Debug, PartialEq, Eq)]
+pub(crate) enum Kind {
+    Plain,
+    Nothing,
+    /// A folder, a device, a pipe or a link.
+    Other,
+    Unknown,
+}
+
+/// What has the name. A file without a name is a mount of its own whose file outside was replaced: what is written to it would be lost.
+pub(crate) fn kind_at<R: Files>(rt: &R, path: &str) -> Kind {
+    match fs::symlink_metadata(rt, path) {
+        Ok(there) if there.is_file() && there.nlink() > 0 => Kind::Plain,
+        Ok(there) if there.is_file() => Kind::Unknown,
+        Ok(_) => Kind::Other,
+        Err(error) if error.kind() == ErrorKind::NotFound && !path.is_empty() => Kind::Nothing,
+        Err(_) => Kind::Unknown,
+    }
+}
