@@ -12,9 +12,8 @@ use crate::offices::{Desk, office_named, open_desk};
 use crate::once::changed_once;
 use clap::ArgMatches;
 use cli_open::engines::CliFault;
-use cli_open::engines::places::Place;
 use cli_open::{
-    entries, entry, files_before, is_twice, listed, open_target, open_text, push_listed,
+    OutPlace, entries, entry, files_before, is_twice, listed, open_target, open_text, push_listed,
     push_words, word,
 };
 use cli_outcome::{Done, NotDone, Outcome, all_done, ended};
@@ -123,11 +122,11 @@ fn supersede_from(rt: &HostRuntime, matches: &ArgMatches<'_>, path: &str) -> Sup
     outcome
 }
 
-fn supersede_from_at<Q: Place>(
+fn supersede_from_at(
     rt: &HostRuntime,
     matches: &ArgMatches<'_>,
     path: &str,
-    desk: &mut Desk<Q>,
+    desk: &mut Desk<OutPlace<'_, HostRuntime>>,
 ) -> Superseded {
     let target = match open_target(rt, matches, word(matches, "out")) {
         Ok(target) => target,

@@ -23,12 +23,13 @@ pub use table::{Rows, answered, is_table};
 pub use targets::{RegisterTarget, open_target};
 pub use waiting::{patience, reserve};
 pub use words::{
-    STANDARD_INPUT, STANDARD_INPUT_PATH, changed_place, entries, entry, explains, files_before,
-    is_twice, listed, office_file, open, open_all, open_text, place, printing_place, push_listed,
-    push_words, replica, wanted, word,
+    OutPlace, STANDARD_INPUT, STANDARD_INPUT_PATH, changed_place, entries, entry, explains,
+    files_before, is_twice, listed, office_file, open, open_all, open_text, place, printing_place,
+    push_listed, push_words, replica, wanted, word,
 };
 
 // The crates of which the commands above use items, so that they need only this one.
+pub use byte_place as files;
 pub use office_names::{Name, named};
 pub use reg_guard as guards;
 pub use reg_guard::engine as engines;

@@ -8,10 +8,10 @@ use crate::inputs::{Replaced, open_input};
 use crate::offices::OpenOffice;
 use crate::shelves::open_shelf;
 use crate::waiting::reserve;
-use crate::words::{changed_place, files_before, word};
+use crate::words::{OutPlace, changed_place, files_before, word};
 use clap::ArgMatches;
 use reg_guard::engine::disks::FileDisk;
-use reg_guard::engine::places::{FilePlace, InputOf};
+use reg_guard::engine::places::InputOf;
 use reg_guard::engine::streams::Reading;
 use reg_guard::engine::{CliFault, Either, InFile, OnShelf};
 use reg_guard::{GuardedFile, GuardedShelf, OfficeFile};
@@ -114,7 +114,7 @@ pub fn open_target<'a>(
     rt: &'a HostRuntime,
     matches: &ArgMatches<'_>,
     out: &'a str,
-) -> Result<RegisterTarget<File, FilePlace<'a, HostRuntime>>, CliFault> {
+) -> Result<RegisterTarget<File, OutPlace<'a, HostRuntime>>, CliFault> {
     let register = word(matches, "REG");
     if matches.get_flag("shelf") {
         let disk = open_shelf(rt, register)?;

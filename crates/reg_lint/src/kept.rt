@@ -28,7 +28,7 @@ pub enum KeptForm {
 
 /// A value takes some 1,700 bytes and three for each byte of its text. Rules over several systems hold as much for each byte, so
 /// values of shorter texts than this one would be a large part of what is held.
-const LONG: usize = 1_000;
+const LONG: usize = 500;
 
 fn is_long(text: &[u8]) -> bool {
     text.len() >= LONG
