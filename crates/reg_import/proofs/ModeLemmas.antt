@@ -3,6 +3,7 @@ use Rattle.std.proofs.Common.{◌≡◌, ◌≢◌, ℕ, ◌+◌, ◌≤◌, nat
 use Rattle.std.specs.Prelude.{Contains, option_map}
 use Rattle.std.specs.Option.{unwrap_or}
 use Rattle.std.proofs.lemmas.Bool.{true≢false, false_from_ne_true, or_cases, or_parts}
+use Rattle.std.proofs.Math.Bool.{or-false}
 use Rattle.crs_value.specs.declared.key.Key.{Key}
 use Rattle.wkt_crs.specs.Definition.{IsKeyIn}
 use Rattle.reg_op.specs.Set.{contains}
@@ -44,7 +45,6 @@ use Rattle.reg_import.specs.Again.{HasStanding, RetiresNoneAhead, AreReadings}
 use Rattle.reg_import.specs.Modes.{MakesNoConflict, RetiresNothing, HasCome, IsOnlyText, LeavesOneText}
 use Rattle.reg_import.proofs.KnownLemmas.{same_key, key_itself}
 use Rattle.reg_import.proofs.FreshLemmas.{imports_once}
-use Rattle.reg_import.proofs.ToldLemmas.{up_to}
 use Rattle.reg_import.proofs.TextLemmas.{HasText, comes_ours}
 use Rattle.reg_import.proofs.AgainLemmas.{at_key, finally, ours_stay}
 use Rattle.reg_import.proofs.StandingLemmas.{in_filter, to_filter, one_key, IsOld, standing_is_old, old_is_standing, entered_stands, row_stands, standing_entry, gone, was_entered, then_retired}
@@ -255,11 +255,7 @@ module _ (x y : Content) (replica note : List ℕ) (d : Differs) (texts : List R
       ]
 
   pub retires_same : ((i : Id) → gone i all ≡ false) → RetiresNothing x y
-  retires_same none i = then_retired x y replica note all ids does i ∙ ap (λ b. retires x.ops i || b) (none i) ∙ or_end (retires x.ops i)
-    where
-      or_end : (a : Bool) → (a || false) ≡ a
-      or_end true = refl
-      or_end false = refl
+  retires_same none i = then_retired x y replica note all ids does i ∙ ap (λ b. retires x.ops i || b) (none i) ∙ or-false (retires x.ops i)
 
   -- a text of the first entries of a key is that of an entry that is not retired before
   record IsBefore (k : KeyBytes) (text : List ℕ) : Type 0 where

@@ -5,7 +5,7 @@ mod LiveLemmas
 mod MarkLemmas
 mod StepLemmas
 mod TextLemmas
-mod VoiceLemmas
+pub mod VoiceLemmas
 mod ToldLemmas
 mod PermutedLemmas
 mod RuleLemmas
