@@ -1,12 +1,12 @@
 -- The calls of a place lead along the protocol.
-use Rattle.std.proofs.Common.{◌≡◌, ◌⊎◌, inl, inr, ℕ, Bool, true, false, List, [], ◌∷◌, ◌++◌, Option, Some, None, take, drop, length, ◌+◌, refl, sym, ◌∙◌, ap, subst}
+use Rattle.std.proofs.Common.{◌≡◌, inl, inr, ℕ, Bool, true, false, List, [], ◌∷◌, ◌++◌, Option, Some, None, take, drop, length, ◌+◌, refl, sym, ◌∙◌, ap, subst}
 use Rattle.std.proofs.Math.Seq.{take-append_seam, drop-append_seam}
 use Rattle.std.proofs.lemmas.List.{append_assoc, append-nil, length-append}
 use Rattle.byte_system.specs.Disk.{Content, Call, Opens, Looks, Finds, Writes, Syncs, Compares, Renames, Unlinks, Fails}
 use Rattle.byte_protocol.specs.declared.replacing.Fault.{Fault}
 use Rattle.byte_protocol.specs.declared.replacing.Fault.TheVariants as fault
 use Rattle.byte_protocol.specs.Replacing.{reserved, Refuses, Asks}
-use Rattle.byte_protocol.specs.Protocol.{Stage, Begins, Owns, Fills, Replaced, ReplacedUnread, IsWhole, IsPart, IsSynced, FoundSame, Move, GivesUp, WritesPart, WritesMore, WritesRest, SyncsNew, FindsSame, Puts, PutsUnread, Withdraws, Strays, Job, from, to, call_of, end, IsPath, AreIdle, IsIdle, IsRead, ChangesNone, calls_of}
+use Rattle.byte_protocol.specs.Protocol.{Stage, Begins, Owns, Fills, Replaced, ReplacedUnread, IsWhole, IsPart, IsSynced, FoundSame, Move, GivesUp, WritesPart, WritesMore, WritesRest, SyncsNew, FindsSame, Puts, PutsUnread, Withdraws, Strays, Job, from, to, call_of, IsPath, AreIdle, IsIdle, IsRead, ChangesNone, calls_of}
 use Rattle.byte_protocol.specs.Unread.{HasRead}
 use Rattle.byte_protocol.proofs.Led.{IsLed, owned_led}
 use Rattle.byte_protocol.proofs.Faults.{refused_anew}

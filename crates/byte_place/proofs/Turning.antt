@@ -1,8 +1,8 @@
 -- The calls of a place that is written in place are turns.
-use Rattle.std.proofs.Common.{◌≡◌, ◌⊎◌, inl, inr, ℕ, Bool, true, false, List, [], ◌∷◌, ◌++◌, Option, Some, None, take, drop, length, ◌+◌, refl, sym, ◌∙◌, ap, subst}
+use Rattle.std.proofs.Common.{◌≡◌, ℕ, Bool, true, false, List, [], ◌∷◌, ◌++◌, Some, None, take, drop, length, ◌+◌, refl, sym, ◌∙◌, ap, subst}
 use Rattle.std.proofs.Math.Seq.{take-append_seam, drop-append_seam}
 use Rattle.std.proofs.lemmas.List.{append_assoc, append-nil, length-append}
-use Rattle.byte_system.specs.Disk.{Content, Call, Compares, Truncates, Writes, Fails}
+use Rattle.byte_system.specs.Disk.{Call, Compares, Truncates, Writes, Fails}
 use Rattle.byte_protocol.specs.Replacing.{entered, compared, Unentered}
 use Rattle.byte_protocol.specs.Protocol.{ChangesNone}
 use Rattle.byte_protocol.specs.InPlace.{Phase, Starts, HasOut, HasPart, Turn, Task, checked_phase, IsRound, AreCalm, round_calls, AreReadUnless, Reaches}

@@ -1,5 +1,5 @@
 -- The calls by which a place looks at OUT, puts its new file in place, or removes it. In each list of calls the last one comes first.
-use Rattle.std.specs.Prelude.{◌≡◌, ◌⊎◌, ℕ, true, false, List, [], ◌∷◌, Some}
+use Rattle.std.specs.Prelude.{◌≡◌, ◌⊎◌, ℕ, true, List, [], ◌∷◌, Some}
 use Rattle.byte_system.specs.Disk.{Call, Opens, Looks, Finds, Renames, Fails}
 use Rattle.byte_protocol.specs.Replacing.{Denies, Removes, Asks}
 use Rattle.byte_protocol.specs.Protocol.{ChangesNone}

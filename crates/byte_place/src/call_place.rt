@@ -12,7 +12,7 @@ use crate::steps::{Unput, make_fault, mode_for, put_own, remove_own, reserve_fau
 use byte_io::{DeviceFault, Log, Tally, WriteFault};
 use byte_out::{Chunks, CompareFault, MakeFault, Place, PutFault};
 use byte_protocol::reserve;
-use byte_system::{FolderFault, ReadFault, System};
+use byte_system::{FileReadFault, FolderSyncFault, System};
 
 /// The place of a file that is replaced by a new one beside it. It makes no call that is not in turn: what comes too early or too
 /// late fails, or does nothing. So whatever is done with it, its calls are a path of the protocol.
@@ -317,17 +317,17 @@ impl<S: System + Drop> Place for CallPlace<S> {
                 self.at = At::Broken(file);
                 Err(CompareFault::Changed)
             }
-            Err(ReadFault::NotOpened) => {
+            Err(FileReadFault::NotOpened) => {
                 self.at = At::Broken(file);
                 self.failures = Tally::after(&self.failures);
                 Err(CompareFault::NotOpened)
             }
-            Err(ReadFault::Forbidden) => {
+            Err(FileReadFault::Forbidden) => {
                 self.at = At::Broken(file);
                 self.failures = Tally::after(&self.failures);
                 Err(CompareFault::NotOpened)
             }
-            Err(ReadFault::Cut(count)) => {
+            Err(FileReadFault::Cut(count)) => {
                 self.at = At::Broken(file);
                 self.failures = Tally::after(&self.failures);
                 Err(CompareFault::ReadFailed(count))
@@ -347,7 +347,7 @@ impl<S: System + Drop> Place for CallPlace<S> {
         match self.system.sync_folder(&self.out) {
             Ok(()) => Ok(()),
             // There is no way to sync a folder that may not be opened.
-            Err(FolderFault::Forbidden) => Ok(()),
+            Err(FolderSyncFault::Forbidden) => Ok(()),
             Err(_) => {
                 self.failures = Tally::after(&self.failures);
                 Err(DeviceFault)

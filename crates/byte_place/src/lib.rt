@@ -4,7 +4,10 @@
 mod call_place;
 mod laws;
 mod new_place;
+mod out_place;
+mod path_opening;
 mod path_place;
+mod path_putting;
 mod progress;
 mod rereading;
 mod steps;
@@ -17,8 +20,9 @@ mod within_place;
 
 pub use byte_system::HostSystem;
 pub use call_place::CallPlace;
-pub use laws::{its_calls_are_a_path, its_calls_are_a_round};
+pub use laws::{calls_on_out_are_steps, its_calls_are_a_path, its_calls_are_a_round};
 pub use new_place::NewPlace;
+pub use out_place::OutPlace;
 pub use path_place::PathPlace;
 pub use progress::ReserveFault;
 pub use systems::{HostSystems, SystemSource};

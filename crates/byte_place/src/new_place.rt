@@ -6,7 +6,7 @@ ghost use Rattle.byte_out.specs.Place.{untold};
 
 use byte_io::{DeviceFault, Log, Tally, WriteFault};
 use byte_out::{Chunks, CompareFault, MakeFault, Place, PutFault};
-use byte_system::{FolderFault, Mode, System};
+use byte_system::{FolderSyncFault, Mode, System};
 
 /// The place of a file that does not exist yet, such as a new office file. It is made with its name.
 #[derive(Drop)]
@@ -107,9 +107,9 @@ impl<S: System + Drop> Place for NewPlace<'_, S> {
         match self.system.sync_folder(self.path) {
             Ok(()) => Ok(()),
             // Where the folder cannot be opened, there is no way to sync it.
-            Err(FolderFault::Forbidden) => Ok(()),
-            Err(FolderFault::NotOpened) => Ok(()),
-            Err(FolderFault::NotSynced) => {
+            Err(FolderSyncFault::Forbidden) => Ok(()),
+            Err(FolderSyncFault::NotOpened) => Ok(()),
+            Err(FolderSyncFault::NotSynced) => {
                 self.failures = Tally::after(&self.failures);
                 Err(DeviceFault)
             }

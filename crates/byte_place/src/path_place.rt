@@ -1,29 +1,21 @@
 //! The place of a path: a new file beside the old one, or the old one itself, where no new file can take its place.
 
-ghost use Rattle.std.specs.Prelude.{◌≡◌, [], None, Some, IfOk, IfErr, option_map};
+ghost use Rattle.std.specs.Prelude.{◌≡◌, [], None, Some, IfOk, option_map};
 ghost use Rattle.std.specs.String.{string_bytes};
 ghost use Rattle.byte_io.specs.Device.{target_of};
 ghost use Rattle.byte_out.specs.Own.{IsOwnPath, file_of};
 ghost use Rattle.byte_out.specs.Place.{untold};
 ghost use Rattle.byte_system.specs.System.{calls};
-ghost use Rattle.byte_place.specs.Ways.{FitsIn, is_beside};
 
 use crate::call_place::CallPlace;
-use crate::progress::ReserveFault;
-use crate::rereading::compare_new;
 use crate::systems::SystemSource;
-use crate::waiting::{is_left, reserve_in};
-use crate::way::{Kind, Led, kind_at, leads};
+use crate::way::{Led, leads};
 use crate::within_place::WithinPlace;
 use byte_io::{DeviceFault, Log, Tally, WriteFault};
-use byte_out::{
-    Chunks, CompareFault, FileId, InUse, Lockable, MakeFault, Place, PutFault, own_path,
-};
-use byte_protocol::EntryFault;
+use byte_out::{Chunks, CompareFault, FileId, MakeFault, Place, PutFault, own_path};
 use byte_system::System;
 use std::alloc::{AllocError, Global};
-use std::rt::{Clock, Files};
-use std::time::Duration;
+use std::rt::Files;
 
 /// How a file is written.
 #[derive(Clone, Copy, Debug, PartialEq, Eq)]
@@ -38,23 +30,23 @@ pub(crate) enum Way {
 /// system refuses to rename it, the file itself is overwritten by `put`, and not before. What is no plain file, and a plain file on a
 /// file system without locks, is overwritten by the place `direct`.
 pub struct PathPlace<'a, R, S: System + Drop, M: SystemSource<S> + Drop, D: Place + Drop> {
-    rt: &'a R,
-    path: &'a str,
+    pub(crate) rt: &'a R,
+    pub(crate) path: &'a str,
     /// The file that the path, a link, leads to.
-    led: Option<String>,
+    pub(crate) led: Option<String>,
     /// Whether the path is a link, and nobody knows where it leads.
-    is_lost: bool,
-    avoided: Option<FileId>,
+    pub(crate) is_lost: bool,
+    pub(crate) avoided: Option<FileId>,
     /// The path of the new file.
-    own: String,
-    source: M,
-    beside: CallPlace<S>,
+    pub(crate) own: String,
+    pub(crate) source: M,
+    pub(crate) beside: CallPlace<S>,
     /// The file itself. While the new file is put in its place, this one keeps it locked, so that nobody writes it in place.
-    within: Option<WithinPlace<S>>,
-    direct: D,
-    way: Way,
+    pub(crate) within: Option<WithinPlace<S>>,
+    pub(crate) direct: D,
+    pub(crate) way: Way,
     /// Whether the new file cannot be opened to the same people as the old one.
-    is_unlike: bool,
+    pub(crate) is_unlike: bool,
     taken: Log,
     failures: Tally,
     openings: Tally,
@@ -172,311 +164,13 @@ fn place_within<S: System + Drop>(
     }
 }
 
-// Puts the bytes, of which there are this many, in the place of those of a file.
-fn put_by<P: Place, C: Chunks>(
-    place: &mut P,
-    read: Option<&[u8]>,
-    content: &mut C,
-    whole: usize,
-) -> Result<(), PutFault>
-    ensures { IfErr result (λ f. FitsIn f whole) }
-{
-    match place.put(read, content) {
-        Ok(()) => Ok(()),
-        Err(PutFault::NotOpened) => Err(PutFault::NotOpened),
-        Err(PutFault::Changed) => Err(PutFault::Changed),
-        Err(PutFault::WriteFailed(count)) => Err(PutFault::WriteFailed(count.min(whole))),
-    }
-}
-
-// The file that a link leads to, or else the one with the path.
-fn file_of<'a>(led: &'a Option<String>, path: &'a str) -> &'a str
+/// The file that a link leads to, or else the one with the path.
+pub(crate) fn file_of<'a>(led: &'a Option<String>, path: &'a str) -> &'a str
     ensures { result.now ≡ file_of (option_map string_bytes led.now) path.now }
 {
     match led {
         Some(real) => real.as_str(),
         None => path,
-    }
-}
-
-impl<'a, R: Files, S: System + Drop, M: SystemSource<S> + Drop, D: Place + Drop> PathPlace<
-    'a,
-    R,
-    S,
-    M,
-    D,
-> {
-    /// Makes and locks the new file, before the old one is read; `make` then finds it. While another command has it, or writes the old
-    /// one in place, this one waits, at most this long, and only then is refused. Where the new file cannot be made at all, nothing is,
-    /// and `make` reports it. Unless `make` takes it, the new file is removed when the place is dropped.
-    pub fn reserve(&mut self, wait: Duration) -> Result<(), InUse>
-    where
-        R: Clock,
-        R::File: Lockable,
-        ensures state { ⟦<PathPlace<'a, R, S, M, D> as Place>⟧.state self.new ≡ ⟦<PathPlace<'a, R, S, M, D> as Place>⟧.state self.old }
-        ensures path { self.new.path ≡ self.old.path }
-        ensures led { self.new.led ≡ self.old.led }
-        ensures out { self.new.beside.out ≡ self.old.beside.out }
-        ensures beside { self.new.beside.beside ≡ self.old.beside.beside }
-        ensures avoided { self.new.avoided ≡ self.old.avoided }
-    {
-        if self.way != Way::Closed || self.is_closed() {
-            return Ok(());
-        }
-        let real = file_of(&self.led, self.path);
-        match kind_at(self.rt, real) {
-            Kind::Plain | Kind::Nothing => {}
-            Kind::Other | Kind::Unknown => return Ok(()),
-        }
-        let start = self.rt.monotonic().ok();
-        match reserve_in(self.rt, &self.source, &mut self.beside, start, wait) {
-            Ok(()) => {}
-            Err(ReserveFault::Exists) => return Err(InUse),
-            Err(ReserveFault::Unlike) => {
-                self.is_unlike = true;
-                return Ok(());
-            }
-            Err(ReserveFault::Forbidden) => return Ok(()),
-            Err(ReserveFault::NotOpened) => return Ok(()),
-        }
-        if !is_left(self.rt, real, start, wait) {
-            self.beside.release();
-            return Err(InUse);
-        }
-        Ok(())
-    }
-
-    /// Whether the file that was made is a new one beside the old one, and not the old one itself.
-    pub fn is_beside(&self) -> bool
-        ensures { result ≡ is_beside self.now.way }
-    {
-        match self.way {
-            Way::Beside => true,
-            _ => false,
-        }
-    }
-
-    // Whether nobody knows where the path leads, or it leads to the file that is avoided.
-    fn is_closed(&self) -> bool {
-        let real = file_of(&self.led, self.path);
-        self.is_lost || self.avoided.is_some() && self.avoided == FileId::at(self.rt, real)
-    }
-
-    // Makes the new file, or opens the one that is overwritten.
-    fn opens(&mut self) -> Result<Way, MakeFault>
-        ensures { ⟦<PathPlace<'a, R, S, M, D> as Place>⟧.state self.new ≡ ⟦<PathPlace<'a, R, S, M, D> as Place>⟧.state self.old }
-    {
-        if self.is_closed() {
-            return Err(MakeFault::NotOpened);
-        }
-        match kind_at(self.rt, file_of(&self.led, self.path)) {
-            Kind::Unknown => return Err(MakeFault::NotOpened),
-            Kind::Other => return self.opens_direct(),
-            Kind::Plain | Kind::Nothing => {}
-        }
-        if self.is_unlike {
-            return self.opens_within();
-        }
-        self.renews();
-        match self.beside.reserve() {
-            Ok(()) => {}
-            Err(ReserveFault::Exists) => return Err(MakeFault::Exists),
-            Err(ReserveFault::NotOpened) => return Err(MakeFault::NotOpened),
-            Err(ReserveFault::Forbidden) => return self.opens_within(),
-            Err(ReserveFault::Unlike) => return self.opens_within(),
-        }
-        match self.beside.make() {
-            Ok(()) => Ok(Way::Beside),
-            Err(fault) => Err(fault),
-        }
-    }
-
-    // Once the new file has its name, it is closed, so that its lock keeps nobody waiting, and another one can be made, by a process of
-    // its own.
-    fn renews(&mut self)
-        ensures { ⟦<PathPlace<'a, R, S, M, D> as Place>⟧.state self.new ≡ ⟦<PathPlace<'a, R, S, M, D> as Place>⟧.state self.old }
-    {
-        if !self.beside.is_over() {
-            return;
-        }
-        if let Ok(system) = self.source.system() {
-            self.beside.restart(system);
-        }
-    }
-
-    // Opens the old file, to overwrite it.
-    fn opens_within(&mut self) -> Result<Way, MakeFault>
-        ensures { ⟦<PathPlace<'a, R, S, M, D> as Place>⟧.state self.new ≡ ⟦<PathPlace<'a, R, S, M, D> as Place>⟧.state self.old }
-    {
-        match self.locks() {
-            Ok(()) => Ok(Way::Within),
-            // It is not there, or has no locks.
-            Err(_) => self.opens_direct(),
-        }
-    }
-
-    fn opens_direct(&mut self) -> Result<Way, MakeFault>
-        ensures { ⟦<PathPlace<'a, R, S, M, D> as Place>⟧.state self.new ≡ ⟦<PathPlace<'a, R, S, M, D> as Place>⟧.state self.old }
-    {
-        match self.direct.make() {
-            Ok(()) => Ok(Way::Direct),
-            Err(_) => Err(MakeFault::NotOpened),
-        }
-    }
-
-    // Locks the old file, so that nobody else writes it in place.
-    fn locks(&mut self) -> Result<(), EntryFault>
-        ensures { ⟦<PathPlace<'a, R, S, M, D> as Place>⟧.state self.new ≡ ⟦<PathPlace<'a, R, S, M, D> as Place>⟧.state self.old }
-    {
-        match &mut self.within {
-            Some(within) => within.enter(),
-            None => Err(EntryFault::NotOpened),
-        }
-    }
-
-    // Compares the old file, which stays locked until the new one has its name. One that is being written in place counts as changed.
-    fn compares_beside(&mut self, read: &[u8]) -> Result<(), CompareFault>
-        ensures { ⟦<PathPlace<'a, R, S, M, D> as Place>⟧.state self.new ≡ ⟦<PathPlace<'a, R, S, M, D> as Place>⟧.state self.old }
-    {
-        let is_open = match self.locks() {
-            Ok(()) => true,
-            // There are no locks.
-            Err(EntryFault::NotLocked) => true,
-            // If it has other bytes now, it has changed.
-            Err(EntryFault::NotOpened) => false,
-            Err(EntryFault::NotNamed) => false,
-            Err(EntryFault::Held) => return Err(CompareFault::Changed),
-        };
-        match self.beside.compare(read) {
-            Ok(()) => {}
-            Err(fault) => return Err(fault),
-        }
-        if !is_open {
-            return Err(CompareFault::NotOpened);
-        }
-        Ok(())
-    }
-
-    // Compares the old file, which is overwritten.
-    fn compares_within(&mut self, read: &[u8]) -> Result<(), CompareFault>
-        ensures { ⟦<PathPlace<'a, R, S, M, D> as Place>⟧.state self.new ≡ ⟦<PathPlace<'a, R, S, M, D> as Place>⟧.state self.old }
-    {
-        match &mut self.within {
-            Some(within) => within.compare(read),
-            None => Err(CompareFault::NotOpened),
-        }
-    }
-
-    // Compares the old file with these bytes.
-    fn compares(&mut self, way: Way, read: &[u8]) -> Result<(), CompareFault>
-        ensures { ⟦<PathPlace<'a, R, S, M, D> as Place>⟧.state self.new ≡ ⟦<PathPlace<'a, R, S, M, D> as Place>⟧.state self.old }
-    {
-        match way {
-            Way::Closed => Err(CompareFault::Changed),
-            Way::Beside => self.compares_beside(read),
-            Way::Within => self.compares_within(read),
-            Way::Direct => self.direct.compare(read),
-        }
-    }
-
-    // Puts the new file in the place of the old one, if its name still leads to it, and to these bytes. On a network the system may
-    // remember for a while which file had the name; so it is read, too.
-    fn puts_beside<C: Chunks>(
-        &mut self,
-        read: Option<&[u8]>,
-        content: &mut C,
-        whole: usize,
-    ) -> Result<(), PutFault>
-        ensures state { ⟦<PathPlace<'a, R, S, M, D> as Place>⟧.state self.new ≡ ⟦<PathPlace<'a, R, S, M, D> as Place>⟧.state self.old }
-        ensures fits { IfErr result (λ f. FitsIn f whole) }
-    {
-        match compare_new(self.rt, &self.own, content) {
-            Ok(()) => {}
-            Err(CompareFault::Changed) => {
-                self.beside.abandon();
-                return Err(PutFault::Changed);
-            }
-            Err(_) => return Err(PutFault::NotOpened),
-        }
-        match put_by(&mut self.beside, read, content, whole) {
-            Ok(()) => {
-                self.within = None;
-                Ok(())
-            }
-            Err(fault) => Err(fault),
-        }
-    }
-
-    // Overwrites the old file, and closes it.
-    fn puts_within<C: Chunks>(
-        &mut self,
-        read: Option<&[u8]>,
-        content: &mut C,
-        whole: usize,
-    ) -> Result<(), PutFault>
-        ensures state { ⟦<PathPlace<'a, R, S, M, D> as Place>⟧.state self.new ≡ ⟦<PathPlace<'a, R, S, M, D> as Place>⟧.state self.old }
-        ensures fits { IfErr result (λ f. FitsIn f whole) }
-    {
-        match self.within.take() {
-            Some(mut within) => put_by(&mut within, read, content, whole),
-            None => Err(PutFault::NotOpened),
-        }
-    }
-
-    // Puts the bytes in the place of the old ones.
-    fn puts<C: Chunks>(
-        &mut self,
-        way: Way,
-        read: Option<&[u8]>,
-        content: &mut C,
-        whole: usize,
-    ) -> Result<(), PutFault>
-        ensures state { ⟦<PathPlace<'a, R, S, M, D> as Place>⟧.state self.new ≡ ⟦<PathPlace<'a, R, S, M, D> as Place>⟧.state self.old }
-        ensures fits { IfErr result (λ f. FitsIn f whole) }
-    {
-        match way {
-            Way::Closed => Err(PutFault::NotOpened),
-            Way::Beside => self.puts_beside(read, content, whole),
-            Way::Within => self.puts_within(read, content, whole),
-            Way::Direct => put_by(&mut self.direct, read, content, whole),
-        }
-    }
-
-    // Overwrites the old file, if the system refused to rename the new one.
-    fn overwrites<C: Chunks>(
-        &mut self,
-        read: Option<&[u8]>,
-        content: &mut C,
-        whole: usize,
-    ) -> Result<(), PutFault>
-        ensures state { ⟦<PathPlace<'a, R, S, M, D> as Place>⟧.state self.new ≡ ⟦<PathPlace<'a, R, S, M, D> as Place>⟧.state self.old }
-        ensures fits { IfErr result (λ f. FitsIn f whole) }
-    {
-        let Ok(way) = self.opens_within() else {
-            return Err(PutFault::NotOpened);
-        };
-        if let Some(read) = read {
-            match self.compares(way, read) {
-                Ok(()) => {}
-                Err(CompareFault::Changed) => {
-                    self.beside.remove();
-                    return Err(PutFault::Changed);
-                }
-                Err(_) => return Err(PutFault::NotOpened),
-            }
-        }
-        match self.puts(way, read, content, whole) {
-            Ok(()) => {
-                self.beside.remove();
-                self.way = way;
-                Ok(())
-            }
-            Err(fault) => {
-                // The new file stays: the old one may have a part of its bytes.
-                self.way = Way::Closed;
-                Err(fault)
-            }
-        }
     }
 }
 

@@ -5,8 +5,6 @@ ghost use Rattle.byte_system.specs.System.{calls};
 
 use byte_system::{HostSystem, System};
 use std::alloc::{AllocError, Global};
-use std::fs::File;
-use std::rt::Files;
 
 /// Gives systems. Each makes the calls of a process of its own, and has made none yet.
 pub trait SystemSource<S: System> {
@@ -16,21 +14,21 @@ pub trait SystemSource<S: System> {
 
 /// Gives the files of the system.
 #[derive(Drop)]
-pub struct HostSystems<'a, R> {
+pub struct HostSystems<'a> {
     alloc: Global,
-    rt: &'a R,
+    rt: &'a HostRuntime,
 }
 
-impl<'a, R: Files<File = File>> HostSystems<'a, R> {
-    pub fn new(alloc: Global, rt: &'a R) -> HostSystems<'a, R>
+impl<'a> HostSystems<'a> {
+    pub fn new(alloc: Global, rt: &'a HostRuntime) -> HostSystems<'a>
         ensures rt { result.rt ≡ rt.entry }
     {
         HostSystems { alloc, rt }
     }
 }
 
-impl<'a, R: Files<File = File>> SystemSource<HostSystem<'a, R>> for HostSystems<'a, R> {
-    fn system(&self) -> Result<HostSystem<'a, R>, AllocError> {
+impl<'a> SystemSource<HostSystem<'a>> for HostSystems<'a> {
+    fn system(&self) -> Result<HostSystem<'a>, AllocError> {
         HostSystem::new(self.alloc, self.rt)
     }
 }

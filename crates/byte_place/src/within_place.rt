@@ -1,16 +1,17 @@
 //! The place of a file that is written in place.
 
-ghost use Rattle.std.specs.Prelude.{◌≡◌, [], None, IsSome, true, false};
+ghost use Rattle.std.specs.Prelude.{[], ◌≡◌, None, IsSome, true, false};
 ghost use Rattle.byte_io.specs.Device.{target_of};
 ghost use Rattle.byte_out.specs.Place.{untold, PutsOnly};
 ghost use Rattle.byte_system.specs.System.{calls};
+ghost use Rattle.byte_place.specs.Steps.{AreNone};
 ghost use Rattle.byte_place.specs.Turns.{Turns};
 
 use crate::progress::Within;
 use byte_io::{DeviceFault, Log, Tally, WriteFault};
 use byte_out::{Chunks, CompareFault, MakeFault, Place, PutFault};
 use byte_protocol::{EntryFault, enter};
-use byte_system::{ReadFault, System};
+use byte_system::{FileReadFault, System};
 
 /// The place of a file that is written in place, by `put`, and not before. It makes no call that is not in turn, so its calls are turns
 /// of the protocol of such files.
@@ -32,7 +33,7 @@ pub struct WithinPlace<S: System + Drop> {
 impl<S: System + Drop> WithinPlace<S> {
     /// The place of the file with the name `out`. No call is made yet.
     pub fn new(system: S, out: Vec<u8>) -> WithinPlace<S>
-        requires { calls (S.state system) ≡ [] }
+        requires { AreNone (calls (S.state system)) }
         ensures system { result.system ≡ system }
         ensures out { result.out ≡ out }
         ensures unread { result.unread ≡ false }
@@ -62,6 +63,18 @@ impl<S: System + Drop> WithinPlace<S> {
             self.at = Within::Ready(file);
             self.unread = true;
         }
+    }
+
+    /// Closes the file, and begins anew by a process of its own.
+    pub fn restart(&mut self, system: S)
+        requires { calls (S.state system) ≡ [] }
+        ensures out { self.new.out ≡ self.old.out }
+    {
+        self.system = system;
+        self.at = Within::Start;
+        self.unread = false;
+        self.got = Log::empty();
+        self.taken = Log::empty();
     }
 
     /// Opens the file and locks it, if that was not done before. Until the place is dropped, nobody else writes the file in place.
@@ -241,17 +254,17 @@ impl<S: System + Drop> Place for WithinPlace<S> {
                 self.at = Within::Over;
                 Err(CompareFault::Changed)
             }
-            Err(ReadFault::NotOpened) => {
+            Err(FileReadFault::NotOpened) => {
                 self.at = Within::Over;
                 self.failures = Tally::after(&self.failures);
                 Err(CompareFault::NotOpened)
             }
-            Err(ReadFault::Forbidden) => {
+            Err(FileReadFault::Forbidden) => {
                 self.at = Within::Over;
                 self.failures = Tally::after(&self.failures);
                 Err(CompareFault::NotOpened)
             }
-            Err(ReadFault::Cut(count)) => {
+            Err(FileReadFault::Cut(count)) => {
                 self.at = Within::Over;
                 self.failures = Tally::after(&self.failures);
                 Err(CompareFault::ReadFailed(count))

@@ -1,9 +1,8 @@
 -- A trace in which the calls of each process are those of turns is a list of turns of all processes.
-use Rattle.std.proofs.Common.{◌≡◌, ◌≢◌, inl, inr, ℕ, List, [], ◌∷◌, refl, sym, ◌∙◌, ap, subst, cond}
+use Rattle.std.proofs.Common.{◌≡◌, inl, inr, ℕ, List, [], ◌∷◌, refl, sym, ◌∙◌, ap, subst, cond}
 use Rattle.std.proofs.lemmas.Bool.Decides.{eqb_tells}
-use Rattle.byte_system.specs.Disk.{numbered, Disk, Event, Call, step, after, Gives, Honest}
+use Rattle.byte_system.specs.Disk.{numbered, Disk, Event, step, after, Gives, Honest}
 use Rattle.byte_system.specs.System.{own}
-use Rattle.byte_protocol.specs.Protocol.{ChangesNone}
 use Rattle.byte_protocol.specs.InPlace.{Phase, Starts, Turn, LocksOut, FindsOut, ComparesOut, EmptiesOut, WritesOut, WritesOn, PutsOver, DoesOther, Quits, Task, leaves_from, leads_to, turn_call, IsAside, IsModest, Doing, phases, files_after, Proceeds, last_phase, IsRound, round_calls, IsCalm, AreCalm, happened}
 use Rattle.byte_protocol.specs.Together.{rest_turns, doing, doings, AreRounds}
 use Rattle.byte_protocol.proofs.Kept.{numbered_at, numbered_other}

@@ -1,6 +1,6 @@
 -- The calls of a process that does not replace OUT are those of a path of moves.
 use Rattle.std.proofs.Common.{◌≡◌, inl, inr, ℕ, Bool, true, false, List, [], ◌∷◌, Option, Some, None, refl, ◌∙◌}
-use Rattle.byte_system.specs.Disk.{Content, Call, Makes, Opens, Locks, Looks, Finds, Compares, Fails}
+use Rattle.byte_system.specs.Disk.{Content, Call, Opens, Locks, Looks, Finds, Compares, Fails}
 use Rattle.byte_protocol.specs.declared.replacing.Fault.{Fault}
 use Rattle.byte_protocol.specs.declared.replacing.Fault.TheVariants as fault
 use Rattle.byte_protocol.specs.Replacing.{reserved, Denies, Disowns, Asks, Unentered, Unswept, Refuses, Removes, Stops, Abandons}

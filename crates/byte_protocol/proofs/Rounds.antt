@@ -2,8 +2,8 @@
 use Rattle.std.proofs.Common.{◌≡◌, inl, inr, ℕ, Bool, true, false, List, [], ◌∷◌, Option, Some, None, length, take, drop, ◌+◌, refl, sym, ◌∙◌, ap, subst}
 use Rattle.std.proofs.Math.Seq.{take-length}
 use Rattle.byte_system.specs.Disk.{Content, Call, Opens, Locks, Looks, Writes, Truncates, Syncs, Compares, Fails}
-use Rattle.byte_protocol.specs.declared.within.WriteFault.{WriteFault}
-use Rattle.byte_protocol.specs.declared.within.WriteFault.TheVariants as fault
+use Rattle.byte_protocol.specs.declared.within.OverwriteFault.{OverwriteFault}
+use Rattle.byte_protocol.specs.declared.within.OverwriteFault.TheVariants as fault
 use Rattle.byte_protocol.specs.Protocol.{ChangesNone}
 use Rattle.byte_protocol.specs.Replacing.{entered, compared, Denies, Disowns, Unentered}
 use Rattle.byte_protocol.specs.Overwriting.{filling, overwriting, Spills, Falters}
@@ -89,7 +89,7 @@ filled_gone t k i u read before may g =
     one_other t k u (HasPart read i (length (t.change k read))) (Syncs i) (all_gone t k i u read before may g) (λ d m. refl)
 
 -- one that did not fill the file
-pub spilled : (t : Task) (k i : ℕ) (u : Bool) (read : Content) (e : WriteFault) (before now : List Call) → MayEmpty u read → Reaches t k false (checked_phase read i) before
+pub spilled : (t : Task) (k i : ℕ) (u : Bool) (read : Content) (e : OverwriteFault) (before now : List Call) → MayEmpty u read → Reaches t k false (checked_phase read i) before
     → Spills e i (t.change k read) before now → (s : Phase) × Reaches t k u s now
 spilled t k i u read fault.NotOpened before now may g r = absurd r
 spilled t k i u read fault.NotRead before now may g r = absurd r
@@ -144,13 +144,13 @@ changed_round t k (Some x) now r =
     read_round t k false now
     (HasOut r.0, reach_as t k false (HasOut r.0) r.1 (one_other t k false (HasOut r.0) (Compares t.out x false) (has_gone t k r.0) (λ d m. refl)))
 
-spilled_round : (t : Task) (k i : ℕ) (read : Content) (e : WriteFault) (now : List Call) → Spills e i (t.change k read) (compared t.out read (entered t.out i [])) now
+spilled_round : (t : Task) (k i : ℕ) (read : Content) (e : OverwriteFault) (now : List Call) → Spills e i (t.change k read) (compared t.out read (entered t.out i [])) now
     → MakesRound t k (is_unread read) now
 spilled_round t k i read e now r =
     is_round t k (is_unread read) now
     (spilled t k i (is_unread read) read e (compared t.out read (entered t.out i [])) now (may read) (checked_gone t k i read (has_gone t k i)) r)
 
-pub faltered_round : (t : Task) (k : ℕ) (read : Option (List ℕ)) (e : WriteFault) (now : List Call) → Falters e t.out read (t.change k read) [] now
+pub faltered_round : (t : Task) (k : ℕ) (read : Option (List ℕ)) (e : OverwriteFault) (now : List Call) → Falters e t.out read (t.change k read) [] now
     → (ms : List Turn) × IsRound ms × AreCalm ms × (now ≡ round_calls t k ms) × AreReadUnless (is_unread read) ms
 faltered_round t k read fault.NotOpened now r = read_round t k (is_unread read) now (unentered_gone t k (nothing_done t k) r)
 faltered_round t k read fault.NotRead now r =

@@ -1,6 +1,6 @@
 -- What is left of OUT after a loss of power, if it is written in place.
-use Rattle.std.proofs.Common.{◌≡◌, ◌≢◌, inl, inr, ℕ, Bool, true, false, List, [], ◌∷◌, Option, Some, None, take, refl, sym, ◌∙◌, ap, cond}
-use Rattle.byte_system.specs.Disk.{Content, content_of, content, numbered, Disk, Event, Syncs, step, after, Gives}
+use Rattle.std.proofs.Common.{◌≡◌, inl, inr, ℕ, Bool, true, false, List, [], ◌∷◌, Option, Some, take, refl, sym, ◌∙◌, ap, cond}
+use Rattle.byte_system.specs.Disk.{Content, content_of, content, numbered, Disk, Event, Syncs, step, after}
 use Rattle.byte_protocol.specs.Cuts.{is_clean, MayLead, IsLeft}
 use Rattle.byte_protocol.specs.InPlace.{HasPart, Turn, LocksOut, FindsOut, ComparesOut, EmptiesOut, WritesOut, WritesOn, PutsOver, DoesOther, Quits, Task, turn_call, IsModest, Doing, files_after, Proceeds, happened, IsWithin, AreWithin}
 use Rattle.byte_protocol.proofs.Kept.{same_number, numbered_at, numbered_other}

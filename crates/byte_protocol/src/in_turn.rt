@@ -3,7 +3,7 @@
 
 ghost use Rattle.std.specs.Prelude.{◌≡◌, ◌⊎◌, ℕ, List, ◌∷◌, [], Option, Some, length, take};
 ghost use Rattle.byte_system.specs.Disk.{Call, Content, content, Disk, Event, Honest};
-ghost use Rattle.byte_protocol.specs.declared.within.WriteFault.{WriteFault};
+ghost use Rattle.byte_protocol.specs.declared.within.OverwriteFault.{OverwriteFault};
 ghost use Rattle.byte_protocol.specs.Replacing.{entered};
 ghost use Rattle.byte_protocol.specs.Overwriting.{Falters, overwriting};
 ghost use Rattle.byte_protocol.specs.InPlace.{Task, Turn, Doing, HasPart, phases, files_after, Proceeds, IsEmptied, IsEmptiedUnread, IsFilled, IsPutOver, last_phase, IsRound, round_calls, AreCalm, AreReadUnless, is_unread, sample_task, sample_files, sample_doings, pair_task, pair_files, pair_doings, happened};
@@ -41,7 +41,7 @@ pub fn writing_is_a_round()
 
 /// Those of `write_within` with a fault are such turns too.
 pub fn a_write_fault_is_a_round()
-    ensures { (t : Task) (k : ℕ) (read : Option (List ℕ)) (e : WriteFault) (now : List Call) → Falters e t.out read (t.change k read) [] now →
+    ensures { (t : Task) (k : ℕ) (read : Option (List ℕ)) (e : OverwriteFault) (now : List Call) → Falters e t.out read (t.change k read) [] now →
         (ms : List Turn) × IsRound ms × AreCalm ms × (now ≡ round_calls t k ms) × AreReadUnless (is_unread read) ms }
 {}
 

@@ -34,5 +34,5 @@ pub use reading::{
     what_readers_put_stays, what_unread_files_have_stays, what_was_put_unread,
     who_has_read_is_read,
 };
-pub use replacing::{EntryFault, Fault, Made, enter, replace, replace_by, reserve};
-pub use within::{WriteFault, fill, write_within};
+pub use replacing::{EntryFault, Fault, ReservedFile, enter, replace, replace_by, reserve};
+pub use within::{OverwriteFault, fill, write_within};

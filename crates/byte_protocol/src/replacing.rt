@@ -5,7 +5,7 @@ ghost use Rattle.byte_system.specs.Disk.{Finds, Locks, Looks, Makes, Unlinks};
 ghost use Rattle.byte_system.specs.System.{GoesOn, calls};
 ghost use Rattle.byte_protocol.specs.Replacing.{Abandons, Asks, Disowns, Refuses, Replaces, Stops, Unentered, Unswept, begun, entered, replacing, reserved};
 
-use byte_system::{Failed, MakeFault, Mode, System, There};
+use byte_system::{Failed, Mode, NewFileFault, System, There};
 
 /// Why a file was not replaced.
 #[derive(Clone, Copy, Debug, PartialEq, Eq)]
@@ -46,7 +46,7 @@ pub enum EntryFault {
 
 /// The new file that a process has made, and the one that a stopped process had left.
 #[derive(Clone, Copy, Debug, PartialEq, Eq)]
-pub struct Made {
+pub struct ReservedFile {
     pub file: usize,
     pub left: Option<usize>,
 }
@@ -77,7 +77,7 @@ pub fn replace<S: System>(
 
 /// Makes the new file, so that its name is this process's own. One that a stopped process left is removed, and nothing is written
 /// to it. Whoever has the new file reads the old one only now.
-pub fn reserve<S: System>(system: &mut S, new: &[u8], mode: Mode) -> Result<Made, Fault>
+pub fn reserve<S: System>(system: &mut S, new: &[u8], mode: Mode) -> Result<ReservedFile, Fault>
     ensures goes { GoesOn (S.state system.old) (S.state system.new) }
     ensures ok { IfOk result (λ m. calls (S.state system.new) ≡ reserved new.now m.left m.file (calls (S.state system.old))) }
     ensures fault { IfErr result (λ e. Refuses e new.now (calls (S.state system.old)) (calls (S.state system.new))) }
@@ -93,29 +93,29 @@ pub fn reserve<S: System>(system: &mut S, new: &[u8], mode: Mode) -> Result<Made
 }
 
 // Makes the new file. One that a stopped process left is removed first.
-fn make_new<S: System>(system: &mut S, new: &[u8], mode: Mode) -> Result<Made, Fault>
+fn make_new<S: System>(system: &mut S, new: &[u8], mode: Mode) -> Result<ReservedFile, Fault>
     ensures goes { GoesOn (S.state system.old) (S.state system.new) }
     ensures ok { IfOk result (λ m. calls (S.state system.new) ≡ Makes new.now (Some m.file) ∷ begun new.now m.left (calls (S.state system.old))) }
     ensures fault { IfErr result (λ e. Refuses e new.now (calls (S.state system.old)) (calls (S.state system.new))) }
 {
     match system.make(new, mode) {
-        Ok(file) => return Ok(Made { file, left: None }),
-        Err(MakeFault::NotMade) => return Err(Fault::NotMade),
-        Err(MakeFault::Forbidden) => return Err(Fault::Forbidden),
-        Err(MakeFault::Exists) => {}
+        Ok(file) => return Ok(ReservedFile { file, left: None }),
+        Err(NewFileFault::NotMade) => return Err(Fault::NotMade),
+        Err(NewFileFault::Forbidden) => return Err(Fault::Forbidden),
+        Err(NewFileFault::Exists) => {}
     }
     let left = match sweep(system, new) {
         Ok(left) => left,
         Err(_) => return Err(Fault::NewExists),
     };
     match system.make(new, mode) {
-        Ok(file) => Ok(Made {
+        Ok(file) => Ok(ReservedFile {
             file,
             left: Some(left),
         }),
-        Err(MakeFault::NotMade) => Err(Fault::NotMade),
-        Err(MakeFault::Forbidden) => Err(Fault::NotMade),
-        Err(MakeFault::Exists) => Err(Fault::NewExists),
+        Err(NewFileFault::NotMade) => Err(Fault::NotMade),
+        Err(NewFileFault::Forbidden) => Err(Fault::NotMade),
+        Err(NewFileFault::Exists) => Err(Fault::NewExists),
     }
 }
 

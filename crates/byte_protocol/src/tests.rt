@@ -1,7 +1,7 @@
 //! `replace` beside a second process, which acts between its calls.
 
 use crate::replacing::{Fault, replace};
-use crate::within::{WriteFault, write_within};
+use crate::within::{OverwriteFault, write_within};
 use byte_system::{Act, Does, MemSystem, Mode};
 use std::alloc::{AllocError, Global};
 use std::test::Fail;
@@ -93,7 +93,7 @@ fn overwrites(
     alloc: Global,
     second: Second,
     fails: &[usize],
-    want: Result<(), WriteFault>,
+    want: Result<(), OverwriteFault>,
     left: &[u8],
 ) -> Result<bool, AllocError> {
     let mut acts = Vec::new(alloc);
@@ -112,7 +112,7 @@ fn writes_in_place(rt: HostRuntime) -> Result<(), Fail> {
             rt.alloc(),
             Second::Nothing,
             &[1],
-            Err(WriteFault::NotOpened),
+            Err(OverwriteFault::NotOpened),
             b"old"
         )?
     );
@@ -121,7 +121,7 @@ fn writes_in_place(rt: HostRuntime) -> Result<(), Fail> {
             rt.alloc(),
             Second::WritesToOut(3),
             &[],
-            Err(WriteFault::Changed),
+            Err(OverwriteFault::Changed),
             b"old!"
         )?
     );
@@ -130,7 +130,7 @@ fn writes_in_place(rt: HostRuntime) -> Result<(), Fail> {
             rt.alloc(),
             Second::Nothing,
             &[4],
-            Err(WriteFault::NotEmptied),
+            Err(OverwriteFault::NotEmptied),
             b"old"
         )?
     );
@@ -139,7 +139,7 @@ fn writes_in_place(rt: HostRuntime) -> Result<(), Fail> {
             rt.alloc(),
             Second::Nothing,
             &[5],
-            Err(WriteFault::NotWritten(2)),
+            Err(OverwriteFault::NotWritten(2)),
             b"mi"
         )?
     );

@@ -10,7 +10,7 @@ use byte_system::System;
 
 /// Why a file was not written in place, or not whole.
 #[derive(Clone, Copy, Debug, PartialEq, Eq)]
-pub enum WriteFault {
+pub enum OverwriteFault {
     /// The file could not be opened, another process has its lock, or the name leads to another file.
     NotOpened,
     /// The file could not be read again.
@@ -32,14 +32,14 @@ pub fn write_within<S: System>(
     out: &[u8],
     read: Option<&[u8]>,
     bytes: &[u8],
-) -> Result<(), WriteFault>
+) -> Result<(), OverwriteFault>
     ensures goes { GoesOn (S.state system.old) (S.state system.new) }
     ensures ok { OnOk result ((i : ℕ) × (calls (S.state system.new) ≡ overwriting out.now i (option_map (λ s. s.now) read.entry) bytes.now (entered out.now i (calls (S.state system.old))))) }
     ensures fault { IfErr result (λ e. Falters e out.now (option_map (λ s. s.now) read.entry) bytes.now (calls (S.state system.old)) (calls (S.state system.new))) }
 {
     let file = match enter(system, out) {
         Ok(file) => file,
-        Err(_) => return Err(WriteFault::NotOpened),
+        Err(_) => return Err(OverwriteFault::NotOpened),
     };
     match overwrite(system, file, out, read, bytes) {
         Ok(()) => Ok(()),
@@ -54,7 +54,7 @@ fn overwrite<S: System>(
     out: &[u8],
     read: Option<&[u8]>,
     bytes: &[u8],
-) -> Result<(), WriteFault>
+) -> Result<(), OverwriteFault>
     ensures goes { GoesOn (S.state system.old) (S.state system.new) }
     ensures ok { OnOk result (calls (S.state system.new) ≡ overwriting out.now file (option_map (λ s. s.now) read.entry) bytes.now (calls (S.state system.old))) }
     ensures fault { IfErr result (λ e. Breaks e out.now file (option_map (λ s. s.now) read.entry) bytes.now (calls (S.state system.old)) (calls (S.state system.new))) }
@@ -62,28 +62,28 @@ fn overwrite<S: System>(
     if let Some(read) = read {
         match system.has(out, read) {
             Ok(true) => {}
-            Ok(false) => return Err(WriteFault::Changed),
-            Err(_) => return Err(WriteFault::NotRead),
+            Ok(false) => return Err(OverwriteFault::Changed),
+            Err(_) => return Err(OverwriteFault::NotRead),
         }
     }
     fill(system, file, bytes)
 }
 
 /// Writes the bytes in the place of those of the file, which this process has locked.
-pub fn fill<S: System>(system: &mut S, file: usize, bytes: &[u8]) -> Result<(), WriteFault>
+pub fn fill<S: System>(system: &mut S, file: usize, bytes: &[u8]) -> Result<(), OverwriteFault>
     ensures goes { GoesOn (S.state system.old) (S.state system.new) }
     ensures ok { OnOk result (calls (S.state system.new) ≡ filling file bytes.now (calls (S.state system.old))) }
     ensures fault { IfErr result (λ e. Spills e file bytes.now (calls (S.state system.old)) (calls (S.state system.new))) }
 {
     if system.truncate(file).is_err() {
-        return Err(WriteFault::NotEmptied);
+        return Err(OverwriteFault::NotEmptied);
     }
     let n = system.write(file, bytes);
     if n != bytes.len() {
-        return Err(WriteFault::NotWritten(n));
+        return Err(OverwriteFault::NotWritten(n));
     }
     if system.sync(file).is_err() {
-        return Err(WriteFault::NotSure);
+        return Err(OverwriteFault::NotSure);
     }
     Ok(())
 }

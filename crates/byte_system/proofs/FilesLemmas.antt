@@ -1,8 +1,8 @@
 -- What the entries show after one more call.
-use Rattle.std.proofs.Common.{◌≡◌, ◌≢◌, ◌⊎◌, inl, inr, ℕ, ◌+◌, ◌<◌, ◌≤◌, Bool, true, false, List, [], ◌∷◌, ◌++◌, Option, Some, None, IsSome, take, bytes_eq, eqb, refl, sym, ◌∙◌, ap, subst, cond, arith}
+use Rattle.std.proofs.Common.{◌≡◌, ◌≢◌, ◌⊎◌, inl, inr, ℕ, ◌+◌, ◌<◌, ◌≤◌, Bool, true, false, List, [], ◌∷◌, ◌++◌, Option, Some, None, IsSome, bytes_eq, eqb, refl, sym, ◌∙◌, ap, subst, cond, arith}
 use Rattle.std.proofs.lemmas.Bool.Decides.{eqb_tells}
 use lib.Pointwise.{bytes_decides}
-use Rattle.byte_system.specs.Disk.{content, content_of, Disk, Event, Call, Makes, Opens, Locks, Compares, Looks, Writes, Truncates, Renames, Unlinks, Finds, Likens, Ends, Gives, Honest, IsNew, after, step, named, numbered, released, no_files}
+use Rattle.byte_system.specs.Disk.{content, content_of, Disk, Event, Call, Makes, Opens, Locks, Compares, Looks, Writes, Truncates, Renames, Unlinks, Finds, Likens, Ends, Gives, after, step, named, numbered, released, no_files}
 use Rattle.byte_system.specs.Entries.{name_from, bytes_from, holder_from, may_lock, is_file}
 use Rattle.byte_system.specs.Files.{IsUnused, Shows}
 use Rattle.byte_system.specs.declared.entries.Name.{Name}

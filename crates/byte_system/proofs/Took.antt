@@ -2,7 +2,7 @@
 use Rattle.std.proofs.Common.{◌≡◌, ◌≢◌, ℕ, List, [], ◌∷◌, ◌++◌, Some, true, eqb, inl, inr, refl, sym, ◌∙◌, ap, subst, cond, arith}
 use Rattle.std.proofs.lemmas.Bool.Decides.{eqb_tells, nat_tests}
 use Rattle.byte_system.specs.Disk.{Event, Call, Honest, no_files}
-use Rattle.byte_system.specs.System.{SystemState, own, Took}
+use Rattle.byte_system.specs.System.{own, Took}
 use Rattle.byte_system.specs.Quiet.{IsOne, IsQuiet}
 
 own_here : (k : ℕ) (c : Call) (es : List Event) → own k (record { by = k; call = c } ∷ es) ≡ c ∷ own k es

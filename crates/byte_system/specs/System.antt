@@ -2,8 +2,8 @@
 use Rattle.std.specs.Prelude.{◌≡◌, ◌==◌, ℕ, Bool, true, false, List, [], ◌∷◌, ◌++◌, Option, Some, None, Ok, Err, take, if◌then◌else◌}
 use Rattle.std.specs.declared.result.Result.{Result}
 use Rattle.byte_system.specs.Disk.{Disk, Event, Call, Makes, Opens, Finds, Writes, Likens, Fails, Honest}
-use Rattle.byte_system.specs.declared.system.MakeFault.{MakeFault}
-use Rattle.byte_system.specs.declared.system.MakeFault.TheVariants as make
+use Rattle.byte_system.specs.declared.system.NewFileFault.{NewFileFault}
+use Rattle.byte_system.specs.declared.system.NewFileFault.TheVariants as make
 use Rattle.byte_system.specs.declared.system.There.{There}
 use Rattle.byte_system.specs.declared.system.There.TheVariants as there
 
@@ -40,7 +40,7 @@ pub record GoesOn (old last : SystemState) : Type 0 where
   pub same_first : last.first ≡ old.first
   pub honest : IsHonest last.first last.trace
 
-abbrev pub make_call : List ℕ → Result ℕ MakeFault → Call
+abbrev pub make_call : List ℕ → Result ℕ NewFileFault → Call
 make_call p (Ok i) = Makes p (Some i)
 make_call p (Err make.Exists) = Makes p None
 make_call p (Err make.Forbidden) = Fails

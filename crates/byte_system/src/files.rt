@@ -1,31 +1,28 @@
-//! Files in memory, and the calls of any process on them. A call fails if it is told to, or finds no room.
+//! Files in memory, and the calls of any process on their names. A call fails if it is told to, or finds no room.
 
-ghost use Rattle.std.specs.Prelude.{◌≡◌, ◌≤◌, ◌∷◌, []};
+ghost use Rattle.std.specs.Prelude.{◌≡◌, ◌∷◌, []};
 ghost use Rattle.byte_system.specs.Files.{Shows};
 
-use crate::entries::{
-    Held, Lock, Name, append, bytes_of, file_named, holder_of, is_file, may_lock, move_name,
-    set_empty, set_lock, set_name,
-};
-use crate::system::{Failed, FolderFault, MakeFault, ReadFault, RenameFault, There};
+use crate::entries::{Held, Lock, Name, bytes_of, file_named, move_name, set_name};
+use crate::system::{Failed, FileReadFault, FolderSyncFault, NewFileFault, RenameFault, There};
 use crate::trail::{Note, Said, Trail};
 use std::alloc::Global;
 
 /// Names, files and locks, and the events that led to them.
 #[derive(Drop)]
 pub(crate) struct Files {
-    alloc: Global,
-    names: Vec<Name>,
-    held: Vec<Held>,
-    locks: Vec<Lock>,
-    count: usize,
+    pub(crate) alloc: Global,
+    pub(crate) names: Vec<Name>,
+    pub(crate) held: Vec<Held>,
+    pub(crate) locks: Vec<Lock>,
+    pub(crate) count: usize,
     pub(crate) trail: Trail,
     ghost shows: { ∥ Shows names.items held.items locks.items count trail.events ∥₁ },
 }
 
 impl Files {
-    ghost use Rattle.byte_system.specs.Disk.{Makes, Opens, Locks, Looks, Writes, Truncates, Syncs, Compares, Renames, Unlinks, SyncsFolder, Fails, Ends};
-    ghost use Rattle.byte_system.specs.System.{make_call, open_call, look_call, alike_call, done_or_failed, told_or_failed, write_call};
+    ghost use Rattle.byte_system.specs.Disk.{Compares, Renames, Unlinks, SyncsFolder, Fails};
+    ghost use Rattle.byte_system.specs.System.{make_call, open_call, look_call, done_or_failed, told_or_failed};
 
     /// No files.
     pub(crate) fn new(alloc: Global) -> Files
@@ -80,66 +77,41 @@ impl Files {
         Ok(There::Sole)
     }
 
-    /// Files in memory are open to all.
-    pub(crate) fn make_alike(
-        &mut self,
-        by: usize,
-        file: usize,
-        path: &[u8],
-        works: bool,
-    ) -> Result<bool, Failed>
-        ensures { self.new.trail.events ≡ record { by = by; call = alike_call file path.now result } ∷ self.old.trail.events }
-    {
-        if !works {
-            self.fail(by);
-            return Err(Failed);
-        }
-        let Some(_) = file_named(&self.names, path) else {
-            self.fail(by);
-            return Err(Failed);
-        };
-        self.trail = self.trail.then(&Note {
-            by,
-            call: Said::Likens(file, path),
-        });
-        Ok(true)
-    }
-
     pub(crate) fn make(
         &mut self,
         by: usize,
         path: &[u8],
         works: bool,
         is_forbidden: bool,
-    ) -> Result<usize, MakeFault>
+    ) -> Result<usize, NewFileFault>
         ensures { self.new.trail.events ≡ record { by = by; call = make_call path.now result } ∷ self.old.trail.events }
     {
         if is_forbidden {
             self.fail(by);
-            return Err(MakeFault::Forbidden);
+            return Err(NewFileFault::Forbidden);
         }
         if !works {
             self.fail(by);
-            return Err(MakeFault::NotMade);
+            return Err(NewFileFault::NotMade);
         }
         if let Some(_) = file_named(&self.names, path) {
             self.trail = self.trail.then(&Note {
                 by,
                 call: Said::Makes(path, None),
             });
-            return Err(MakeFault::Exists);
+            return Err(NewFileFault::Exists);
         }
         let file = self.count;
         let Some(next) = file.checked_add(1) else {
             self.fail(by);
-            return Err(MakeFault::NotMade);
+            return Err(NewFileFault::NotMade);
         };
         if let Err(_) = set_name(self.alloc, &mut self.names, path, Some(file)) {
             self.trail = self.trail.then(&Note {
                 by,
                 call: Said::Fails,
             });
-            return Err(MakeFault::NotMade);
+            return Err(NewFileFault::NotMade);
         }
         self.count = next;
         self.trail = self.trail.then(&Note {
@@ -167,142 +139,18 @@ impl Files {
         Ok(file)
     }
 
-    pub(crate) fn lock(&mut self, by: usize, file: usize, works: bool) -> Result<bool, Failed>
-        ensures { self.new.trail.events ≡ record { by = by; call = told_or_failed (Locks file) result } ∷ self.old.trail.events }
-    {
-        if !works {
-            self.fail(by);
-            return Err(Failed);
-        }
-        if self.count <= file {
-            self.fail(by);
-            return Err(Failed);
-        }
-        if !may_lock(holder_of(&self.locks, file), by) {
-            self.trail = self.trail.then(&Note {
-                by,
-                call: Said::Locks(file, false),
-            });
-            return Ok(false);
-        }
-        if let Err(_) = set_lock(&mut self.locks, Lock::Taken(file, by)) {
-            self.trail = self.trail.then(&Note {
-                by,
-                call: Said::Fails,
-            });
-            return Err(Failed);
-        }
-        self.trail = self.trail.then(&Note {
-            by,
-            call: Said::Locks(file, true),
-        });
-        Ok(true)
-    }
-
-    pub(crate) fn is_named(
-        &mut self,
-        by: usize,
-        path: &[u8],
-        file: usize,
-        works: bool,
-    ) -> Result<bool, Failed>
-        ensures { self.new.trail.events ≡ record { by = by; call = told_or_failed (Looks path.now file) result } ∷ self.old.trail.events }
-    {
-        if !works {
-            self.fail(by);
-            return Err(Failed);
-        }
-        if is_file(file_named(&self.names, path), file) {
-            self.trail = self.trail.then(&Note {
-                by,
-                call: Said::Looks(path, file, true),
-            });
-            return Ok(true);
-        }
-        self.trail = self.trail.then(&Note {
-            by,
-            call: Said::Looks(path, file, false),
-        });
-        Ok(false)
-    }
-
-    /// A call that is told to fail writes half of the bytes.
-    pub(crate) fn write(&mut self, by: usize, file: usize, bytes: &[u8], works: bool) -> usize
-        ensures { self.new.trail.events ≡ record { by = by; call = write_call file bytes.now result } ∷ self.old.trail.events }
-    {
-        let n = count_for(bytes.len(), works);
-        if self.count <= file {
-            self.trail = self.trail.then(&Note {
-                by,
-                call: Said::Writes(file, &[]),
-            });
-            return 0;
-        }
-        if let Err(_) = append(self.alloc, &mut self.held, file, &bytes[..n]) {
-            self.trail = self.trail.then(&Note {
-                by,
-                call: Said::Writes(file, &[]),
-            });
-            return 0;
-        }
-        self.trail = self.trail.then(&Note {
-            by,
-            call: Said::Writes(file, &bytes[..n]),
-        });
-        n
-    }
-
-    pub(crate) fn truncate(&mut self, by: usize, file: usize, works: bool) -> Result<(), Failed>
-        ensures { self.new.trail.events ≡ record { by = by; call = done_or_failed (Truncates file) result } ∷ self.old.trail.events }
-    {
-        if !works {
-            self.fail(by);
-            return Err(Failed);
-        }
-        if self.count <= file {
-            self.fail(by);
-            return Err(Failed);
-        }
-        if let Err(_) = set_empty(self.alloc, &mut self.held, file) {
-            self.trail = self.trail.then(&Note {
-                by,
-                call: Said::Fails,
-            });
-            return Err(Failed);
-        }
-        self.trail = self.trail.then(&Note {
-            by,
-            call: Said::Truncates(file),
-        });
-        Ok(())
-    }
-
-    pub(crate) fn sync(&mut self, by: usize, file: usize, works: bool) -> Result<(), Failed>
-        ensures { self.new.trail.events ≡ record { by = by; call = done_or_failed (Syncs file) result } ∷ self.old.trail.events }
-    {
-        if !works {
-            self.fail(by);
-            return Err(Failed);
-        }
-        self.trail = self.trail.then(&Note {
-            by,
-            call: Said::Syncs(file),
-        });
-        Ok(())
-    }
-
     pub(crate) fn has(
         &mut self,
         by: usize,
         path: &[u8],
         bytes: &[u8],
         works: bool,
-    ) -> Result<bool, ReadFault>
+    ) -> Result<bool, FileReadFault>
         ensures { self.new.trail.events ≡ record { by = by; call = told_or_failed (Compares path.now bytes.now) result } ∷ self.old.trail.events }
     {
         if !works {
             self.fail(by);
-            return Err(ReadFault::NotOpened);
+            return Err(FileReadFault::NotOpened);
         }
         let Some(file) = file_named(&self.names, path) else {
             self.trail = self.trail.then(&Note {
@@ -386,12 +234,12 @@ impl Files {
         by: usize,
         path: &[u8],
         works: bool,
-    ) -> Result<(), FolderFault>
+    ) -> Result<(), FolderSyncFault>
         ensures { self.new.trail.events ≡ record { by = by; call = done_or_failed (SyncsFolder path.now) result } ∷ self.old.trail.events }
     {
         if !works {
             self.fail(by);
-            return Err(FolderFault::NotSynced);
+            return Err(FolderSyncFault::NotSynced);
         }
         self.trail = self.trail.then(&Note {
             by,
@@ -399,31 +247,4 @@ impl Files {
         });
         Ok(())
     }
-
-    /// The process ends, and so do its locks.
-    pub(crate) fn end(&mut self, by: usize) -> Result<(), Failed>
-        ensures { self.new.trail.events ≡ record { by = by; call = done_or_failed Ends result } ∷ self.old.trail.events }
-    {
-        if let Err(_) = set_lock(&mut self.locks, Lock::Ended(by)) {
-            self.trail = self.trail.then(&Note {
-                by,
-                call: Said::Fails,
-            });
-            return Err(Failed);
-        }
-        self.trail = self.trail.then(&Note {
-            by,
-            call: Said::Ends,
-        });
-        Ok(())
-    }
-}
-
-fn count_for(len: usize, works: bool) -> usize
-    ensures { result ≤ len }
-{
-    if works {
-        return len;
-    }
-    len / 2
 }

@@ -1,6 +1,6 @@
 //! What answers of the system mean.
 
-use crate::system::{MakeFault, Mode, RenameFault, There};
+use crate::system::{Mode, NewFileFault, RenameFault, There};
 use std::fs::Metadata;
 use std::io::ErrorKind;
 use std::os::unix::fs::MetadataExt;
@@ -26,12 +26,12 @@ pub(crate) fn permissions(mode: Mode) -> u32 {
 }
 
 /// Why no file was made.
-pub(crate) fn make_fault(error: ErrorKind) -> MakeFault {
+pub(crate) fn make_fault(error: ErrorKind) -> NewFileFault {
     match error {
-        ErrorKind::AlreadyExists => MakeFault::Exists,
+        ErrorKind::AlreadyExists => NewFileFault::Exists,
         ErrorKind::PermissionDenied | ErrorKind::ReadOnlyFilesystem | ErrorKind::InvalidFilename =>
-            MakeFault::Forbidden,
-        _ => MakeFault::NotMade,
+            NewFileFault::Forbidden,
+        _ => NewFileFault::NotMade,
     }
 }
 

@@ -4,11 +4,15 @@
 mod entries;
 mod files;
 mod host_answers;
+mod host_files;
 mod host_system;
 mod mem_system;
+mod open_files;
 mod system;
 mod trail;
 
 pub use host_system::HostSystem;
 pub use mem_system::{Act, Does, MemSystem};
-pub use system::{Failed, FolderFault, MakeFault, Mode, ReadFault, RenameFault, System, There};
+pub use system::{
+    Failed, FileReadFault, FolderSyncFault, Mode, NewFileFault, RenameFault, System, There,
+};

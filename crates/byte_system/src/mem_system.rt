@@ -5,7 +5,9 @@ ghost use Rattle.byte_system.specs.Disk.{no_files};
 ghost use Rattle.byte_system.specs.Quiet.{IsOne, IsQuiet};
 
 use crate::files::Files;
-use crate::system::{Failed, FolderFault, MakeFault, Mode, ReadFault, RenameFault, System, There};
+use crate::system::{
+    Failed, FileReadFault, FolderSyncFault, Mode, NewFileFault, RenameFault, System, There,
+};
 use std::alloc::Global;
 
 /// What another process does. A file's number is how many files were made before it.
@@ -131,7 +133,7 @@ impl System for MemSystem {
         self.files.look(self.me, path, works)
     }
 
-    fn make(&mut self, path: &[u8], _mode: Mode) -> Result<usize, MakeFault> {
+    fn make(&mut self, path: &[u8], _mode: Mode) -> Result<usize, NewFileFault> {
         let works = self.works();
         self.files.make(self.me, path, works, self.is_forbidden)
     }
@@ -171,7 +173,7 @@ impl System for MemSystem {
         self.files.sync(self.me, file, works)
     }
 
-    fn has(&mut self, path: &[u8], bytes: &[u8]) -> Result<bool, ReadFault> {
+    fn has(&mut self, path: &[u8], bytes: &[u8]) -> Result<bool, FileReadFault> {
         let works = self.works();
         self.files.has(self.me, path, bytes, works)
     }
@@ -186,7 +188,7 @@ impl System for MemSystem {
         self.files.unlink(self.me, path, works)
     }
 
-    fn sync_folder(&mut self, path: &[u8]) -> Result<(), FolderFault> {
+    fn sync_folder(&mut self, path: &[u8]) -> Result<(), FolderSyncFault> {
         let works = self.works();
         self.files.sync_folder(self.me, path, works)
     }

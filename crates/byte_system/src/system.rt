@@ -5,7 +5,7 @@ ghost use Rattle.byte_system.specs.System.{SystemState, Took, make_call, open_ca
 
 /// Why no new file was made.
 #[derive(Clone, Copy, Debug, PartialEq, Eq)]
-pub enum MakeFault {
+pub enum NewFileFault {
     Exists,
     /// No file with this name can be made in its folder: the folder forbids it, or the name is too long.
     Forbidden,
@@ -35,7 +35,7 @@ pub enum There {
 
 /// Why a file could not be read to its end.
 #[derive(Clone, Copy, Debug, PartialEq, Eq)]
-pub enum ReadFault {
+pub enum FileReadFault {
     NotOpened,
     /// It may not be read.
     Forbidden,
@@ -53,7 +53,7 @@ pub enum RenameFault {
 
 /// Why a folder was not synced.
 #[derive(Clone, Copy, Debug, PartialEq, Eq)]
-pub enum FolderFault {
+pub enum FolderSyncFault {
     /// It may not be opened.
     Forbidden,
     /// It could not be opened for another reason.
@@ -75,7 +75,7 @@ pub trait System {
         ensures { Took (look_call path.now result) (state self.old) (state self.new) };
 
     /// Makes a new, empty file. There was none with this name.
-    fn make(&mut self, path: &[u8], mode: Mode) -> Result<usize, MakeFault>
+    fn make(&mut self, path: &[u8], mode: Mode) -> Result<usize, NewFileFault>
         ensures { Took (make_call path.now result) (state self.old) (state self.new) };
 
     /// Gives an open file the owner, the group and the mode of the one with the name, as far as the system permits. Returns whether
@@ -108,7 +108,7 @@ pub trait System {
         ensures { Took (done_or_failed (Syncs file) result) (state self.old) (state self.new) };
 
     /// Whether the file with the name has exactly these bytes.
-    fn has(&mut self, path: &[u8], bytes: &[u8]) -> Result<bool, ReadFault>
+    fn has(&mut self, path: &[u8], bytes: &[u8]) -> Result<bool, FileReadFault>
         ensures { Took (told_or_failed (Compares path.now bytes.now) result) (state self.old) (state self.new) };
 
     /// Gives the file with one name another name, whose file loses it. It fails if the two are one name.
@@ -120,6 +120,6 @@ pub trait System {
         ensures { Took (done_or_failed (Unlinks path.now) result) (state self.old) (state self.new) };
 
     /// Syncs the folder of a name.
-    fn sync_folder(&mut self, path: &[u8]) -> Result<(), FolderFault>
+    fn sync_folder(&mut self, path: &[u8]) -> Result<(), FolderSyncFault>
         ensures { Took (done_or_failed (SyncsFolder path.now) result) (state self.old) (state self.new) };
 }

@@ -1,4 +1,4 @@
--- How `supersede` ends: which lines of a list are told, and which fault.
+-- How `supersede` ends: which lines of a list are reported, and which fault.
 use Rattle.std.specs.Prelude.{◌≡◌, ◌⊎◌, Bool, false, List, [], map, Result, Ok, Err}
 use Rattle.reg_engine.specs.declared.fault.CliFault.{CliFault}
 use Rattle.reg_engine.specs.declared.fault.CliFault.TheVariants as cli
@@ -22,12 +22,12 @@ IsPlainOutcome (Ok a) (Ok d) = (d.left.items ≡ []) × (d.differs ≡ false)
 IsPlainOutcome (Ok a) (Err s) = ⊥
 IsPlainOutcome (Err f) outcome = IsStopped f outcome
 
--- this line is told, unless memory ran out for it
+-- this line is reported, unless memory ran out for it
 abbrev pub IsAtLine : RefusedLine → ListFault → Type 0
 IsAtLine line (list.AtLine told) = told.line ≡ line
 IsAtLine line (list.Plain f) = f ≡ cli.Memory
 
--- the fault is told as the line that refuses the command; as itself, only if none does, or memory ran out
+-- the fault is reported as the line that refuses the command; as itself, only if none does, or memory ran out
 abbrev pub IsListFault : Bool → List RefusedLine → CliFault → ListFault → Type 0
 IsListFault keep_going refused fault (list.AtLine told) = Refuses keep_going refused fault told.line
 IsListFault keep_going refused fault (list.Plain f) = (f ≡ cli.Memory) ⊎ ((f ≡ fault) × ((line : RefusedLine) → ¬ (Refuses keep_going refused fault line)))
@@ -39,7 +39,7 @@ IsListDone refused (Err (stop.Fault (list.Plain f))) = f ≡ cli.Memory
 IsListDone refused (Err (stop.Fault (list.AtLine told))) = ⊥
 IsListDone refused (Err (stop.Misuse line)) = ⊥
 
--- lines are told as left out only of a command that is done; otherwise its fault is told, and nothing else
+-- lines are reported as left out only of a command that is done; otherwise its fault is reported, and nothing else
 abbrev pub IsListOutcome : {A : Type 0} → {B : Type 0} → Bool → List RefusedLine → Result A CliFault → Result (Done ToldLine B) (NotDone ListFault) → Type 0
 IsListOutcome keep_going refused (Ok a) outcome = IsListDone refused outcome
 IsListOutcome keep_going refused (Err f) (Err (stop.Fault g)) = IsListFault keep_going refused f g

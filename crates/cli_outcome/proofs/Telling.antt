@@ -1,9 +1,9 @@
--- What is told of a list, as a walk along it goes on.
+-- What is reported of a list, as a walk along it goes on.
 use Rattle.std.proofs.Common.{◌≡◌, ℕ, ◌+◌, ◌<◌, ◌≤◌, List, ◌∷◌, length, drop, get_or, refl, sym, subst}
 use Rattle.std.proofs.lemmas.List.{at_drop_more, drop_all}
 use Rattle.cli_outcome.specs.Outcome.{TellsEach}
 
--- whatever is told of the remaining things from now on, all of them are told from the first moment on
+-- whatever is reported of the remaining things from now on, all of them are reported from the first moment on
 abbrev pub Leads : {S : Type 0} → {L : Type 0} → (S → L → S → Type 0) → List L → List L → S → S → Type 0
 Leads {S} Tells rest all now old = (new : S) → TellsEach Tells rest now new → TellsEach Tells all old new
 
@@ -11,7 +11,7 @@ module _ {S : Type 0} {L : Type 0} (Tells : S → L → S → Type 0) (all : Lis
   pub begins : (old : S) → Leads Tells (drop 0 all) all old old
   begins old = λ new h. h
 
-  -- the item at i was told
+  -- the item at i was reported
   pub goes_on : (i : ℕ) (one : L) (old now next : S) → i < length all → one ≡ get_or all i one → Leads Tells (drop i all) all now old → Tells now one next
       → Leads Tells (drop (i + 1) all) all next old
   goes_on i one old now next below is leads told = λ new h.

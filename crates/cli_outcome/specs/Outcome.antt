@@ -1,10 +1,10 @@
--- How a command ends: what is told of it, and its exit status.
+-- How a command ends: what is reported of it, and its exit status.
 use Rattle.std.specs.Prelude.{◌≡◌, ◌&&◌, ℕ, Bool, true, false, List, [], ◌∷◌, Option, Some, None, Result, Ok, Err}
 use Rattle.cli_outcome.specs.declared.outcome.Done.{Done}
 use Rattle.cli_outcome.specs.declared.outcome.NotDone.{NotDone}
 use Rattle.cli_outcome.specs.declared.outcome.NotDone.TheVariants as stop
 
--- ---- what is told, from one moment to another
+-- ---- what is reported, from one moment to another
 
 -- each of these, in order, and nothing else
 abbrev pub TellsEach : {S : Type 0} → {L : Type 0} → (S → L → S → Type 0) → List L → S → S → Type 0
@@ -34,7 +34,7 @@ abbrev pub left_out_status : {L : Type 0} → (L → ℕ) → List L → Option 
 left_out_status status [] = None
 left_out_status status (l ∷ ls) = Some (status l)
 
--- otherwise 1 for a difference that is to be told, and 0 without one
+-- otherwise 1 for a difference that is to be reported, and 0 without one
 abbrev pub whole_status : Bool → ℕ
 whole_status true = 1
 whole_status false = 0
@@ -56,7 +56,7 @@ abbrev pub answer_status : {F : Type 0} → {B : Type 0} → (F → ℕ) → Res
 answer_status fault (Ok b) = 0
 answer_status fault (Err f) = fault f
 
--- the command is done, left nothing out, and has no difference to tell
+-- the command is done, left nothing out, and has no difference to report
 abbrev pub IsAllDone : {F : Type 0} → {L : Type 0} → {B : Type 0} → Result (Done L B) (NotDone F) → Type 0
 IsAllDone (Ok d) = (d.left.items ≡ []) × (d.differs ≡ false)
 IsAllDone (Err s) = ⊥
@@ -73,7 +73,7 @@ IsPart left answer outcome = ⊥
 abbrev pub IsEnded : {F : Type 0} → {L : Type 0} → {A : Type 0} → {B : Type 0} → Result A F → Result (Done L B) (NotDone F) → Type 0
 IsEnded answer outcome = IsPart (λ a. []) answer outcome
 
--- the same for one whose answer has a difference or not, which is told if that is asked for
+-- the same for one whose answer has a difference or not, which is reported if that is asked for
 abbrev pub IsComparedBy : {F : Type 0} → {L : Type 0} → {A : Type 0} → {B : Type 0} → (A → Bool) → Bool → Result A F → Result (Done L B) (NotDone F) → Type 0
 IsComparedBy differs asked (Ok a) (Ok d) = (d.left.items ≡ []) × (d.differs ≡ (asked && differs a))
 IsComparedBy differs asked (Err f) (Err (stop.Fault g)) = g ≡ f

@@ -1,6 +1,8 @@
 //! The answer of a call.
 
-use byte_system::{Failed, FolderFault, MakeFault, Mode, ReadFault, RenameFault, System, There};
+use byte_system::{
+    Failed, FileReadFault, FolderSyncFault, Mode, NewFileFault, RenameFault, System, There,
+};
 use std::fmt;
 
 /// The answer of a call.
@@ -66,9 +68,9 @@ fn file(word: &str) -> usize {
 fn made<S: System>(system: &mut S, name: &str) -> Answer {
     match system.make(name.as_bytes(), Mode::Usual) {
         Ok(file) => Answer::Number(file),
-        Err(MakeFault::Exists) => Answer::Exists,
-        Err(MakeFault::Forbidden) => Answer::Failed,
-        Err(MakeFault::NotMade) => Answer::Failed,
+        Err(NewFileFault::Exists) => Answer::Exists,
+        Err(NewFileFault::Forbidden) => Answer::Failed,
+        Err(NewFileFault::NotMade) => Answer::Failed,
     }
 }
 
@@ -79,7 +81,7 @@ fn there(told: Result<There, Failed>) -> Answer {
     }
 }
 
-fn had(told: Result<bool, ReadFault>) -> Answer {
+fn had(told: Result<bool, FileReadFault>) -> Answer {
     match told {
         Ok(is) => Answer::Is(is),
         Err(_) => Answer::Failed,
@@ -114,7 +116,7 @@ fn done(told: Result<(), Failed>) -> Answer {
     }
 }
 
-fn synced(told: Result<(), FolderFault>) -> Answer {
+fn synced(told: Result<(), FolderSyncFault>) -> Answer {
     match told {
         Ok(()) => Answer::Done,
         Err(_) => Answer::Failed,

@@ -1,4 +1,4 @@
--- The exit statuses of what standard error tells, which are never that of success.
+-- The exit statuses of what standard error reports, which are never that of success.
 use Rattle.std.specs.Prelude.{◌≡◌, ℕ}
 use Rattle.std.proofs.Common.{arith}
 use Rattle.reg_engine.specs.declared.fault.CliFault.{CliFault}

@@ -1,5 +1,5 @@
 -- The file of a merge depends only on the operations and seen ids that its files bring; and the faults of a merge.
-use Rattle.std.proofs.Common.{◌≡◌, ◌⊎◌, inl, inr, ◌++◌, ◌∷◌, length, arith, [], List, ℕ, Ok, Err, Result, Some, None, map, refl, sym, ap, subst, ◌∙◌}
+use Rattle.std.proofs.Common.{◌≡◌, ◌⊎◌, inl, inr, ◌++◌, ◌∷◌, [], List, ℕ, Ok, Err, Result, Some, None, map, refl, sym, ap, subst, ◌∙◌}
 use Rattle.std.specs.declared.option.Option.{Option}
 use Rattle.reg_op.specs.Ids.{Id}
 use Rattle.reg_op.specs.Operations.{Ops, OneBody, kept}
@@ -11,9 +11,8 @@ use Rattle.reg_file.specs.declared.parts.Part.TheVariants as part
 use Rattle.reg_state.specs.ManyLaws.{all_ops, all_seen, all_of, merged_all}
 use Rattle.reg_state.proofs.ManyLemmas.{joined_is, states_all}
 use Rattle.reg_op.specs.Set as set
-use Rattle.reg_op.proofs.OpLemmas.{op_total}
 use Rattle.reg_file.specs.Layout.{file}
-use Rattle.reg_file.specs.Files.{Holds, IsFileOf, IsTooLarge}
+use Rattle.reg_file.specs.Files.{Holds, IsFileOf}
 use Rattle.reg_file.proofs.HoldLemmas.{one_file}
 use Rattle.reg_engine.specs.declared.fault.CliFault.{CliFault}
 use Rattle.reg_engine.specs.declared.fault.CliFault.TheVariants as cli
@@ -27,6 +26,8 @@ use Rattle.reg_engine.specs.Inputs.{HoldAll, AreUnread, registers, pieces, GiveP
 use Rattle.reg_engine.specs.Outputs.{IsUnpublished}
 use Rattle.reg_commands.specs.Merge.{begun, with_pieces, join_of, IsUnjoined, brought, IsMergeOf, JoinTo, Ends, IsMergeFault}
 use Rattle.reg_engine.proofs.InputLemmas.{none_failed, stops_first}
+use Rattle.reg_tree.proofs.Held.{stays}
+use Rattle.reg_shelf.proofs.Contents.{empty_fits}
 
 abbrev content_or : {E : Type 0} → Content → Result Content E → Content
 content_or d (Ok x) = x
@@ -104,10 +105,6 @@ states ss bytes one (x, to_x, hold_x) = subst (λ z. Holds bytes z) (same_join (
 
 -- ---- the effect of the command
 
-refused_all : (r : PieceRefusal) (qs : List Piece) → with_pieces (Err r) qs ≡ Err r
-refused_all r [] = refl
-refused_all r (q ∷ qs) = refused_all r qs
-
 -- the join of the registers and pieces that were read is the join of the parts
 pub of_parts : (ps : List Part) (xs : List Content) (qs : List Piece) → xs ≡ registers ps → qs ≡ pieces ps → join_of ps ≡ with_pieces (begun (all_joined joined (Ok nothing) xs)) qs
 of_parts ps xs qs e f =
@@ -155,8 +152,8 @@ refused_as old new ps r held is same f h = refused_by old new ps r held is same 
 
 -- a refusal of the registers is also that of the registers and the pieces
 stays_by : (r : Result Content PieceRefusal) (qs : List Piece) (f : CliFault) → Ways r f → IsUnjoined (with_pieces r qs) f
-stays_by r qs f (inl (id, e, h)) = subst (λ k. IsUnjoined (with_pieces r qs) k) (sym e) (ap (λ z. with_pieces z qs) h ∙ refused_all (Clash id) qs)
-stays_by r qs f (inr (inl (id, e, h))) = subst (λ k. IsUnjoined (with_pieces r qs) k) (sym e) (ap (λ z. with_pieces z qs) h ∙ refused_all (Basis id) qs)
+stays_by r qs f (inl (id, e, h)) = subst (λ k. IsUnjoined (with_pieces r qs) k) (sym e) (ap (λ z. with_pieces z qs) h ∙ stays (Clash id) qs)
+stays_by r qs f (inr (inl (id, e, h))) = subst (λ k. IsUnjoined (with_pieces r qs) k) (sym e) (ap (λ z. with_pieces z qs) h ∙ stays (Basis id) qs)
 stays_by r qs f (inr (inr e)) = subst (λ k. IsUnjoined (with_pieces r qs) k) (sym e) tt
 
 pub refusal_stays : (r : Result Content PieceRefusal) (qs : List Piece) (f : CliFault) → IsUnjoined r f → IsUnjoined (with_pieces r qs) f
@@ -198,18 +195,12 @@ unmerged old new ps x held join (cli.Office t) h = absurd h
 empty_file : IsFileOf nothing (file (set.items nothing.ops) [])
 empty_file = record { runs = []; are_runs = tt; all = refl; whole = refl }
 
-pub nothing_is_small : IsTooLarge nothing → ⊥
-nothing_is_small (bytes, is, long) =
-    let same : bytes ≡ file [] [] = one_file nothing bytes (file (set.items nothing.ops) []) is empty_file ∙ ap (λ os. file os []) (set.items-from_list op_total [] tt) in
-    let size : length bytes ≡ 14 = ap length same in
-    absurd (omega (arith, size, long))
-
 abbrev fault_or : CliFault → Result (Unit {0}) CliFault → CliFault
 fault_or d (Ok x) = d
 fault_or d (Err f) = f
 
 pub never_too_large : (old new : PlaceState) (f : CliFault) → IsUnpublished nothing None old new f → ◌≡◌ {A = Result (Unit {0}) CliFault} (Err f) (Err (cli.Out out.TooLarge)) → ⊥
-never_too_large old new f h e = nothing_is_small (subst (λ k. IsUnpublished nothing None old new k) (ap (fault_or f) e) h).0
+never_too_large old new f h e = empty_fits (subst (λ k. IsUnpublished nothing None old new k) (ap (fault_or f) e) h).0
 
 -- a fault of reading the files is a fault of the merge
 pub unread : (old new : Ends) → new.place ≡ old.place → (f : CliFault) → AreUnread 1 old.sources new.sources f → IsMergeFault old new f

@@ -5,6 +5,7 @@ use Rattle.std.specs.List.{list_any}
 use Rattle.std.specs.Cmp.{Equal-is, tied_itself}
 use Rattle.std.specs.Ordering.{is_eq, eq_by_cmp}
 use Rattle.std.proofs.lemmas.Bool.{true≢false, or_cases, or_left, or_right}
+use Rattle.std.proofs.Math.Bool.{and-false}
 use mathlib.Core.Bool.{or-false}
 use Rattle.reg_op.specs.Set as set
 use Rattle.reg_op.specs.Set.{contains, union, contains-from_list}
@@ -155,11 +156,7 @@ none_entered [] (o ∷ os) i e = cc
 none_entered (k ∷ ids) (o ∷ os) i e =
     let head : o.body ≡ Retire k = cc in
     let tail : map (λ (p : Op). p.body) os ≡ retirements ids = cc in
-    (λ j. (is_same i o.id && is_enter (head j)) || none_entered ids os i tail j) ∙ ap (λ b. b || false) (and_end (is_same i o.id))
-  where
-    and_end : (a : Bool) → (a && false) ≡ false
-    and_end true = refl
-    and_end false = refl
+    (λ j. (is_same i o.id && is_enter (head j)) || none_entered ids os i tail j) ∙ ap (λ b. b || false) (and-false (is_same i o.id))
 
 module _ (x y : Content) (replica note : List ℕ) (ids made : List Id) (s : RetiresFor x replica note ids y made) where
   enters_same : (i : Id) → enters (s.between).ops i ≡ enters x.ops i

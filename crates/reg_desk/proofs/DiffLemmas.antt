@@ -9,9 +9,10 @@ use Rattle.reg_query.specs.DiffLines.{IsDiff}
 use Rattle.reg_engine.specs.declared.fault.CliFault.{CliFault}
 use Rattle.reg_engine.specs.declared.fault.CliFault.TheVariants as cli
 use Rattle.reg_engine.specs.Inputs.{AreUnread, GivePartsAfter, registers, pieces}
+use Rattle.reg_engine.proofs.InputLemmas.{none_failed}
 use Rattle.reg_commands.specs.Merge.{begun, with_pieces, join_of, IsUnjoined}
+use Rattle.reg_commands.proofs.MergeLemmas.{of_parts}
 use Rattle.reg_desk.specs.Diff.{joined_parts, joined_ones, IsUntold, Compares, CannotCompare}
-use Rattle.reg_desk.proofs.PartLemmas.{none_failed, of_parts}
 
 ones_of : (joins : Bool) (x : Content) (ps : List Part) → joined_ones joins (x ∷ registers ps) ≡ registers (joined_parts joins x ps)
 ones_of true x ps = refl

@@ -1,6 +1,6 @@
 -- Reading the next of some files, after those before it gave their bytes.
-use Rattle.std.proofs.Common.{◌≡◌, ◌∷◌, ◌++◌, [], List, ℕ, ◌+◌, ◌<◌, ◌≤◌, zero, suc, length, map, take, drop, get_or, slice_set, refl, ap, sym, subst, arith, inl, inr, ◌∙◌}
-use Rattle.std.proofs.lemmas.List.{take_all, length-map}
+use Rattle.std.proofs.Common.{◌≡◌, ◌∷◌, ◌++◌, [], List, ℕ, ◌+◌, ◌<◌, zero, suc, length, map, take, drop, get_or, slice_set, refl, ap, sym, subst, arith, inl, inr, ◌∙◌}
+use Rattle.std.proofs.Math.Numerals.{suc-eq-add-one}
 use Rattle.byte_io.specs.Device.{SourceState}
 use Rattle.byte_io.specs.Whole.{StopsEarly}
 use Rattle.reg_file.specs.Files.{most}
@@ -27,9 +27,6 @@ gave_some o n b (read, short) = (b, read.given, read.front, read.bounded, read.q
 stops_at_once : (o : SourceState) → StopsEarly (most + 1) o o
 stops_at_once o = let g = (none_given (o ∷ [])).0 in (g.0, g.1, g.2, g.3, g.4, refl)
 
-next : (i : ℕ) → suc i ≡ i + 1
-next i = omega arith
-
 module _ {F : Type 0} (st : F → SourceState) where
   first : (w n : F) (ws ns : List F) → map st (n ∷ ns) ≡ map st (w ∷ ws) → st n ≡ st w
   first w n ws ns e = ap (head_of (st n)) e
@@ -47,7 +44,7 @@ module _ {F : Type 0} (st : F → SourceState) where
 
   pub behind : (was now : List F) (i : ℕ) (s : F) → length now ≡ length was → drop i (map st now) ≡ drop i (map st was)
       → drop (i + 1) (map st (slice_set now i s)) ≡ drop (i + 1) (map st was)
-  behind was now i s size back = subst (λ j. drop j (map st (slice_set now i s)) ≡ drop j (map st was)) (next i) (behind_suc was now i s size back)
+  behind was now i s size back = subst (λ j. drop j (map st (slice_set now i s)) ≡ drop j (map st was)) (suc-eq-add-one i) (behind_suc was now i s size back)
 
   gave_suc : (was now : List F) (i : ℕ) (o s : F) (bs : List (List ℕ)) (b : List ℕ) → i < length was → length now ≡ length was
       → GiveAll (take i (map st was)) (take i (map st now)) bs → drop i (map st now) ≡ drop i (map st was) → Gives (st (get_or now i o)) (st s) b
@@ -63,7 +60,7 @@ module _ {F : Type 0} (st : F → SourceState) where
       → GiveAll (take i (map st was)) (take i (map st now)) bs → drop i (map st now) ≡ drop i (map st was) → Gives (st (get_or now i o)) (st s) b → cs ≡ bs ++ b ∷ []
       → GiveAll (take (i + 1) (map st was)) (take (i + 1) (map st (slice_set now i s))) cs
   gave_next was now i o s bs cs b within size front back gives pushed =
-      subst (λ j. GiveAll (take j (map st was)) (take j (map st (slice_set now i s))) cs) (next i)
+      subst (λ j. GiveAll (take j (map st was)) (take j (map st (slice_set now i s))) cs) (suc-eq-add-one i)
       (subst (λ ds. GiveAll (take (suc i) (map st was)) (take (suc i) (map st (slice_set now i s))) ds) (sym pushed) (gave_suc was now i o s bs b within size front back gives))
 
   stops_at : (was now : List F) (number i k : ℕ) (o s : F) (bs : List (List ℕ)) (f : InputFault) → i < length was → length now ≡ length was
@@ -116,10 +113,3 @@ module _ {F : Type 0} (st : F → SourceState) where
   unread_next was now number i k o s bs within size front back at cli.Memory h = inl (runs_out_next was now i o s bs within size front back h)
   unread_next was now number i k o s bs within size front back at (cli.Shelf p) h = absurd h
   unread_next was now number i k o s bs within size front back at (cli.Office t) h = absurd h
-
-  -- after the last file, all gave their bytes
-  pub gave_all : (was now : List F) (i : ℕ) (bs : List (List ℕ)) → length was ≤ i → length now ≡ length was
-      → GiveAll (take i (map st was)) (take i (map st now)) bs → GiveAll (map st was) (map st now) bs
-  gave_all was now i bs past size h =
-      subst (λ os. GiveAll os (map st now) bs) (take_all i (map st was) (omega (arith, length-map was st, past)))
-      (subst (λ ns. GiveAll (take i (map st was)) ns bs) (take_all i (map st now) (omega (arith, length-map now st, size, past))) h)

@@ -1,8 +1,8 @@
 -- Inspecting the next of some files or shelves, after those before it are inspected.
-use Rattle.std.proofs.Common.{◌≡◌, ◌⊎◌, inl, inr, ◌∷◌, ◌++◌, [], List, ℕ, ◌+◌, ◌<◌, ◌≤◌, zero, suc, length, take, drop, get_or, slice_set, refl, sym, ap, subst, ◌∙◌, arith}
+use Rattle.std.proofs.Common.{◌≡◌, ◌⊎◌, inl, inr, ◌∷◌, ◌++◌, [], List, ℕ, ◌+◌, ◌<◌, zero, suc, length, take, drop, get_or, slice_set, refl, sym, ap, subst, ◌∙◌, arith}
+use Rattle.std.proofs.Math.Numerals.{suc-eq-add-one}
 use Rattle.std.specs.Prelude.{IsTrue, Err, IsErrOf}
 use Rattle.std.specs.declared.result.Result.{Result}
-use Rattle.std.proofs.lemmas.List.{take_all}
 use Rattle.byte_io.specs.Device.{SourceState}
 use Rattle.reg_op.specs.Contents.{Content}
 use Rattle.reg_file.specs.Files.{ReadsAs, ReadsBytes}
@@ -29,9 +29,6 @@ abbrev tail_of : {A : Type 0} → List A → List A
 tail_of [] = []
 tail_of (x ∷ xs) = xs
 
-next : (i : ℕ) → suc i ≡ i + 1
-next i = omega arith
-
 module _ {T : Type 0} (At : T → T → Look → Type 0) (Stays : T → T → Type 0) where
   behind_suc : (was now : List T) (i : ℕ) (s : T) → length now ≡ length was → drop i now ≡ drop i was → drop (suc i) (slice_set now i s) ≡ drop (suc i) was
   behind_suc [] [] i s size back = refl
@@ -41,7 +38,7 @@ module _ {T : Type 0} (At : T → T → Look → Type 0) (Stays : T → T → Ty
   behind_suc (w ∷ ws) (n ∷ ns) (suc i) s size back = behind_suc ws ns i s (omega arith) back
 
   pub behind : (was now : List T) (i : ℕ) (s : T) → length now ≡ length was → drop i now ≡ drop i was → drop (i + 1) (slice_set now i s) ≡ drop (i + 1) was
-  behind was now i s size back = subst (λ j. drop j (slice_set now i s) ≡ drop j was) (next i) (behind_suc was now i s size back)
+  behind was now i s size back = subst (λ j. drop j (slice_set now i s) ≡ drop j was) (suc-eq-add-one i) (behind_suc was now i s size back)
 
   looks_suc : (was now : List T) (i : ℕ) (o s : T) (ls : List Look) (l : Look) → i < length was → length now ≡ length was
       → AreLooks At (take i was) (take i now) ls → drop i now ≡ drop i was → At (get_or now i o) s l → AreLooks At (take (suc i) was) (take (suc i) (slice_set now i s)) (ls ++ l ∷ [])
@@ -55,13 +52,8 @@ module _ {T : Type 0} (At : T → T → Look → Type 0) (Stays : T → T → Ty
   pub looks_next : (was now : List T) (i : ℕ) (o s : T) (ls ms : List Look) (l : Look) → i < length was → length now ≡ length was
       → AreLooks At (take i was) (take i now) ls → drop i now ≡ drop i was → At (get_or now i o) s l → ms ≡ ls ++ l ∷ [] → AreLooks At (take (i + 1) was) (take (i + 1) (slice_set now i s)) ms
   looks_next was now i o s ls ms l within size front back is pushed =
-      subst (λ j. AreLooks At (take j was) (take j (slice_set now i s)) ms) (next i)
+      subst (λ j. AreLooks At (take j was) (take j (slice_set now i s)) ms) (suc-eq-add-one i)
       (subst (λ ks. AreLooks At (take (suc i) was) (take (suc i) (slice_set now i s)) ks) (sym pushed) (looks_suc was now i o s ls l within size front back is))
-
-  -- after the last one, all are inspected
-  pub looks_all : (was now : List T) (i : ℕ) (ls : List Look) → length was ≤ i → length now ≡ length was → AreLooks At (take i was) (take i now) ls → AreLooks At was now ls
-  looks_all was now i ls past size h =
-      subst (λ os. AreLooks At os now ls) (take_all i was past) (subst (λ ns. AreLooks At (take i was) ns ls) (take_all i now (omega (arith, size, past))) h)
 
   untouched : (os : List T) → AreLeft At Stays os os
   untouched [] = refl

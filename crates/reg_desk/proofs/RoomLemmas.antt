@@ -1,10 +1,9 @@
 -- The room on a shelf that was restored, by the size in its head.
-use Rattle.std.proofs.Common.{◌≡◌, ◌⊎◌, ◌+◌, ◌<◌, ◌≤◌, inl, inr, Bool, ℕ, List, length, drop, refl, sym, ap, subst, ◌∙◌, arith, length-take, length-drop}
+use Rattle.std.proofs.Common.{◌≡◌, ◌⊎◌, ◌+◌, ◌<◌, ◌≤◌, inl, inr, Bool, ℕ, List, length, refl, sym, ap, subst, ◌∙◌, arith}
 use Rattle.std.specs.Prelude.{IsTrue, Err, IsErrOf}
-use Rattle.std.specs.Int.{w32, to_be_bytes}
 use Rattle.std.specs.declared.result.Result.{Result}
 use Rattle.byte_disk.proofs.Moments.{weaker, joined}
-use Rattle.byte_shelf.specs.Shelf.{StandAt, HasHead}
+use Rattle.byte_shelf.specs.Shelf.{HasHead}
 use Rattle.byte_shelf.specs.Keep.{CountsFault}
 use Rattle.byte_shelf.specs.declared.fault.ShelfFault.{ShelfFault}
 use Rattle.byte_shelf.specs.declared.fault.ShelfFault.TheVariants as shelf
@@ -16,12 +15,8 @@ use Rattle.reg_engine.specs.declared.fault.CliFault.TheVariants as cli
 use Rattle.reg_engine.specs.Fault.{shelf_fault}
 use Rattle.reg_engine.specs.Shelf.{Disks, IsSure, AddsNothingTo}
 use Rattle.reg_engine.specs.Store.{on_shelf}
-use Rattle.reg_engine.proofs.ShelfLemmas.{then_stays}
+use Rattle.reg_engine.proofs.ShelfLemmas.{then_stays, long_head}
 use Rattle.reg_desk.specs.ImportRoom.{IsFull, room_on_shelf}
-
--- a shelf has at least the five bytes of its head
-long_head : (s : List ℕ) (n : ℕ) → StandAt s 1 (to_be_bytes w32 n) → 5 ≤ length s
-long_head s n stands = omega (arith, ap length stands, length-take 4 (drop 1 s), length-drop 1 s)
 
 is_long : (s : List ℕ) (x : Content) → IsShelf s x → length s < 5 → ⊥
 is_long s x p short = omega (arith, short, long_head s p.shelf.size p.shelf.head.size_stands)

@@ -214,7 +214,3 @@ dangling_is rs found r b has superseded e = (
   λ h. record { superseded = superseded; lost = λ chain leads. true≢false (sym h ∙ e ∙ ap not ((has r.entry).1 (chain, leads))) },
   λ d. e ∙ ap not (false_from_ne_true (has_id found r.entry) (λ h. let heir = (has r.entry).0 h in d.lost heir.0 heir.1)),
 )
-
-pub nothing_left : {X : Type 0} (xs : List X) → length xs ≡ 0 → xs ≡ []
-nothing_left [] e = refl
-nothing_left (x ∷ xs) e = absurd (omega (arith, e))

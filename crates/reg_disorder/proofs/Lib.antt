@@ -1,6 +1,6 @@
 mod RowLemmas
 mod ListLemmas
-mod TextLemmas
+pub mod TextLemmas
 mod KeyLemmas
 mod LinkLemmas
 mod HeirLemmas

@@ -9,11 +9,11 @@ use Rattle.std.specs.List.Sorted.{IsSortedBy}
 use Rattle.std.specs.Cmp.{IsTotalOrder, IsStrictWeakOrder, Equal-is, then_total, on_total, tied_itself}
 use Rattle.std.specs.Ordering.{is_lt, is_eq, ordering_then}
 use Rattle.std.specs.declared.cmp.Ordering.{Ordering}
-use Rattle.std.specs.declared.cmp.Ordering.TheVariants.{Less, Equal, Greater}
+use Rattle.std.specs.declared.cmp.Ordering.TheVariants.{Equal}
 use Rattle.reg_op.specs.Set.{IsAntisymmetric}
 use Rattle.reg_op.specs.Ids.{id_cmp}
 use Rattle.reg_op.specs.Rows.{Row}
-use Rattle.reg_op.proofs.OpLemmas.{id_total, id_exact}
+use Rattle.reg_op.proofs.OpLemmas.{id_total, id_exact, both_equal}
 use Rattle.reg_report.specs.Conflicts.{KeyBytes, key_cmp}
 use Rattle.reg_report.proofs.ConflictLemmas.{none_in, key_total, key_exact}
 use Rattle.reg_disorder.specs.declared.listed.ListedEntry.{ListedEntry}
@@ -49,11 +49,6 @@ module _ (P : Row → Type 0) (rs : List Row) (r : Row) where
 
 pub keyed_total : IsTotalOrder keyed_cmp
 keyed_total = then_total (on_total (λ (l : Keyed). l.key) key_total) (on_total (λ (l : Keyed). l.entry) id_total)
-
-both_equal : (r t : Ordering) → ordering_then r t ≡ Equal → (r ≡ Equal) × (t ≡ Equal)
-both_equal Less t e = cc
-both_equal Equal t e = (refl, e)
-both_equal Greater t e = cc
 
 pub keyed_exact : IsAntisymmetric keyed_cmp
 keyed_exact a b e =

@@ -1,6 +1,7 @@
 -- One more source is read, after those before it.
 use Rattle.std.proofs.Common.{◌≡◌, ◌∷◌, ◌++◌, [], List, ℕ, ◌+◌, ◌<◌, ◌≤◌, zero, suc, length, map, take, drop, get_or, slice_set, refl, ap, sym, subst, append-nil, append_assoc, arith, Some, None, ◌∙◌}
 use Rattle.std.proofs.lemmas.List.{take_all, length-map}
+use Rattle.std.proofs.Math.Numerals.{suc-eq-add-one}
 use Rattle.std.specs.declared.option.Option.{Option}
 use Rattle.std.specs.Io.KnownBytes.{Consumes}
 use Rattle.byte_io.specs.Device.{SourceState}
@@ -58,9 +59,6 @@ pieces_next [] p = refl
 pieces_next (part.Register x ∷ ps) p = pieces_next ps p
 pieces_next (part.Piece q ∷ ps) p = ap (λ qs. q ∷ qs) (pieces_next ps p)
 
-next : (i : ℕ) → suc i ≡ i + 1
-next i = omega arith
-
 module _ {S : Type 0} (st : S → SourceState) where
   first : (w n : S) (ws ns : List S) → map st (n ∷ ns) ≡ map st (w ∷ ws) → st n ≡ st w
   first w n ws ns e = ap (head_of (st n)) e
@@ -107,19 +105,19 @@ module _ {S : Type 0} (st : S → SourceState) where
 
   pub behind : (was now : List S) (i : ℕ) (s : S) → length now ≡ length was → drop i (map st now) ≡ drop i (map st was)
       → drop (i + 1) (map st (slice_set now i s)) ≡ drop (i + 1) (map st was)
-  behind was now i s size back = subst (λ j. drop j (map st (slice_set now i s)) ≡ drop j (map st was)) (next i) (behind_suc was now i s size back)
+  behind was now i s size back = subst (λ j. drop j (map st (slice_set now i s)) ≡ drop j (map st was)) (suc-eq-add-one i) (behind_suc was now i s size back)
 
   pub held_next : (was now : List S) (i : ℕ) (o s : S) (xs : List Part) (x : Part) → i < length was → length now ≡ length was
       → HoldAll (take i (map st was)) (take i (map st now)) xs → drop i (map st now) ≡ drop i (map st was) → FindsPart (st (get_or now i o)) (st s) x
       → HoldAll (take (i + 1) (map st was)) (take (i + 1) (map st (slice_set now i s))) (xs ++ x ∷ [])
   held_next was now i o s xs x within size front back found =
-      subst (λ j. HoldAll (take j (map st was)) (take j (map st (slice_set now i s))) (xs ++ x ∷ [])) (next i) (held_suc was now i o s xs x within size front back found)
+      subst (λ j. HoldAll (take j (map st was)) (take j (map st (slice_set now i s))) (xs ++ x ∷ [])) (suc-eq-add-one i) (held_suc was now i o s xs x within size front back found)
 
   pub stops_next : (was now : List S) (i : ℕ) (o s : S) (xs : List Part) (f : InputFault) → i < length was → length now ≡ length was
       → HoldAll (take i (map st was)) (take i (map st now)) xs → drop i (map st now) ≡ drop i (map st was) → IsPartFault f (st (get_or now i o)) (st s)
       → StopsAt (i + 1) f (map st was) (map st (slice_set now i s))
   stops_next was now i o s xs f within size front back fault =
-      subst (λ j. StopsAt j f (map st was) (map st (slice_set now i s))) (next i) (stops_suc was now i o s xs f within size front back fault)
+      subst (λ j. StopsAt j f (map st was) (map st (slice_set now i s))) (suc-eq-add-one i) (stops_suc was now i o s xs f within size front back fault)
 
   -- a fault of reading the source at index i is a fault of reading the list
   pub unread_next : (was now : List S) (next i number : ℕ) (o s : S) (xs : List Part) → i < length was → length now ≡ length was

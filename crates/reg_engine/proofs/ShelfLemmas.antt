@@ -43,7 +43,7 @@ unrestored d old new shelf.Memory is counts none nothing = record { quiet = coun
 unrestored d old new shelf.DiskFailed is counts none nothing = (counts, nothing)
 
 -- bytes with a number at offset 1 are at least 5
-long_head : (s : List ℕ) (n : ℕ) → StandAt s 1 (to_be_bytes w32 n) → 5 ≤ length s
+pub long_head : (s : List ℕ) (n : ℕ) → StandAt s 1 (to_be_bytes w32 n) → 5 ≤ length s
 long_head s n stands = omega (arith, ap length stands, length-take 4 (drop 1 s), length-drop 1 s)
 
 one_size : (s : List ℕ) (a b : ℕ) → a < 2 ^ 32 → b < 2 ^ 32 → StandAt s 1 (to_be_bytes w32 a) → StandAt s 1 (to_be_bytes w32 b) → a ≡ b

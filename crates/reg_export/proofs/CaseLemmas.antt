@@ -6,6 +6,7 @@ use Rattle.std.proofs.lemmas.Bool.Decides.{nat_tests}
 use Rattle.std.proofs.lemmas.List.{map-append}
 use Rattle.std.proofs.lemmas.List.Elements.{recursion_from_All}
 use Rattle.std.proofs.lemmas.Nat.{div-add-mod'}
+use Rattle.std.proofs.lemmas.Str.Ascii.{lowercase-lowercase}
 use Rattle.reg_export.specs.declared.naming.Capitals.{Capitals}
 use Rattle.reg_export.specs.declared.naming.Capitals.TheVariants as capitals
 use Rattle.reg_export.specs.KeyNames.{is_plain, is_capital, stays, hex_digit, named_byte, named, name_with, file_name, read_after, rest_after, without_end}
@@ -22,9 +23,6 @@ not_capital b e = grind (arith, nat_tests)
 
 plain_below : (b : ℕ) → is_plain b ≡ true → is_plain (to_ascii_lowercase b) ≡ true
 plain_below b e = grind (arith, nat_tests)
-
-twice : (b : ℕ) → to_ascii_lowercase (to_ascii_lowercase b) ≡ to_ascii_lowercase b
-twice b = grind (arith, nat_tests)
 
 -- the value of a digit in small letters
 abbrev low_value : ℕ → ℕ
@@ -47,7 +45,7 @@ kept capitals.Stay b = to_ascii_lowercase b
 kept capitals.Escaped b = b
 
 low_kept : (p : Capitals) (b : ℕ) → to_ascii_lowercase (kept p b) ≡ to_ascii_lowercase b
-low_kept capitals.Stay b = twice b
+low_kept capitals.Stay b = lowercase-lowercase b
 low_kept capitals.Escaped b = refl
 
 stays_so : (p : Capitals) (b : ℕ) → stays p b ≡ true → to_ascii_lowercase b ≡ kept p b
@@ -117,7 +115,7 @@ plain_picked : (b : ℕ) (t : Bool) → is_capital b ≡ t → low_byte capitals
 plain_picked b true e =
     let own : is_plain b ≡ true = grind (arith, nat_tests) in
     let low : is_plain (to_ascii_lowercase b) ≡ true = plain_below b own in
-    rw (own, low) (ap (λ n. n ∷ []) (sym (twice b)))
+    rw (own, low) (ap (λ n. n ∷ []) (sym (lowercase-lowercase b)))
 plain_picked b false e = ap (low_byte capitals.Stay) (sym (small b e))
 
 plain_text : (text : List ℕ) → flat_map (low_byte capitals.Stay) text ≡ flat_map (low_byte capitals.Stay) (lower text)

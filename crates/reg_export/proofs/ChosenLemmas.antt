@@ -1,5 +1,5 @@
 -- The uncontested rows, and the least place of the contested ones, row by row.
-use Rattle.std.proofs.Common.{◌≡◌, ◌≢◌, ◌⊎◌, Bool, true, false, cond, List, [], ◌∷◌, ◌++◌, length, map, Option, Some, None, refl, sym, ap, ◌∙◌, subst, inl, inr, append_assoc, append-nil, arith}
+use Rattle.std.proofs.Common.{◌≡◌, ◌≢◌, ◌⊎◌, Bool, true, false, cond, List, [], ◌∷◌, ◌++◌, Option, Some, None, refl, sym, ap, ◌∙◌, subst, inl, inr, append_assoc, append-nil}
 use Rattle.std.specs.Prelude.{◌↔◌, Contains, IsTrue}
 use Rattle.std.specs.Cmp.{IsTotalOrder, IsStrictWeakOrder, then_total, on_total, tied_itself}
 use Rattle.std.specs.Ordering.{is_lt}
@@ -132,7 +132,3 @@ is_there all done rest others r e f = subst (λ l. Contains l r) (sym (e ∙ ap 
 
 pub all_done : (all done rest : List Row) → all ≡ done ++ rest → rest ≡ [] → all ≡ done
 all_done all done rest e f = e ∙ ap (λ l. done ++ l) f ∙ append-nil done
-
-pub none_left : {X Y : Type 0} (f : X → Y) (xs : List X) → length xs ≡ 0 → map f xs ≡ []
-none_left f [] e = refl
-none_left f (x ∷ xs) e = absurd (omega (arith, e))

@@ -1,6 +1,6 @@
 -- The concatenation of what each row gives, one row at a time.
 use Rattle.std.proofs.Common.{◌≡◌, ℕ, ◌+◌, ◌<◌, ◌≤◌, List, [], ◌∷◌, ◌++◌, map, drop, get_or, length, length-drop, refl, sym, ap, ◌∙◌, append_assoc, append-nil, subst, arith}
-use Rattle.std.proofs.lemmas.List.{drop_more, length-map}
+use Rattle.std.proofs.lemmas.List.{drop_more, length-map, nil_from_length}
 use Rattle.reg_op.specs.Rows.{Row}
 use Rattle.reg_export.specs.Titles.{Each}
 
@@ -9,12 +9,8 @@ use Rattle.reg_export.specs.Titles.{Each}
 pub here : {V W : Type 0} (f : W → V) (ws : List W) (i : ℕ) (d : W) → i < length ws → map f (drop i ws) ≡ f (get_or ws i d) ∷ map f (drop (i + 1) ws)
 here f ws i d h = ap (map f) (drop_more ws i d h)
 
-no_more : {V : Type 0} (vs : List V) → length vs ≡ 0 → vs ≡ []
-no_more [] e = refl
-no_more (v ∷ vs) e = absurd (omega (arith, e))
-
 pub ended : {V W : Type 0} (f : W → V) (ws : List W) (i : ℕ) → length ws ≤ i → map f (drop i ws) ≡ []
-ended f ws i h = no_more (map f (drop i ws)) (let long = length-drop i ws in length-map (drop i ws) f ∙ omega (arith, long, h))
+ended f ws i h = nil_from_length (map f (drop i ws)) (let long = length-drop i ws in length-map (drop i ws) f ∙ omega (arith, long, h))
 
 -- ---- what the rows give
 

@@ -14,6 +14,7 @@ use Rattle.std.specs.Ordering.{ordering_then}
 use Rattle.std.specs.Str.{bytes_eq}
 use Rattle.std.specs.declared.cmp.Ordering.{Ordering}
 use Rattle.std.specs.declared.cmp.Ordering.TheVariants.{Less, Equal, Greater}
+use Rattle.reg_op.proofs.OpLemmas.{both_equal}
 use Rattle.byte_folder.specs.declared.file.NamedFile.{NamedFile}
 use Rattle.byte_folder.specs.Folder.{File, seen, is_long}
 use Rattle.reg_export.specs.declared.files.Keyed.{Keyed}
@@ -23,19 +24,15 @@ use Rattle.reg_export.specs.KeyNames.{name_with}
 use Rattle.reg_export.specs.KeyFiles.{KeyedText, keyed, capitals_if, has_twin, plain_name, lower, file_with, file_in, fitting, name_cmp, file_cmp, AreInOrder, AreFilesOf, HaveOneText, HaveBytes}
 use Rattle.reg_export.specs.Twins.{At, Tells, file_at}
 use Rattle.reg_export.proofs.NameLemmas.{not_shared}
-use Rattle.reg_export.proofs.SortLemmas.{in_head, rises_once, kept_once, from_map}
+use Rattle.reg_export.proofs.SortLemmas.{rises_once, kept_once}
 use Rattle.reg_export.proofs.CaseLemmas.{one_key, plain_alike}
 use Rattle.reg_export.proofs.TwinLemmas.{twin_found, twin_is}
+use Rattle.reg_report.proofs.ConflictLemmas.{in_head, from_map}
 
 -- ---- in order
 
 file_total : IsTotalOrder file_cmp
 file_total = then_total (on_total (λ (f : File). f.name) nat_list_cmp_total) (on_total (λ (f : File). f.bytes) nat_list_cmp_total)
-
-both_equal : (r t : Ordering) → ordering_then r t ≡ Equal → (r ≡ Equal) × (t ≡ Equal)
-both_equal Less t e = cc
-both_equal Equal t e = (refl, e)
-both_equal Greater t e = cc
 
 pub one_file : (f g : File) → f.name ≡ g.name → f.bytes ≡ g.bytes → f ≡ g
 one_file f g n b = λ j. record { name = n j; bytes = b j }

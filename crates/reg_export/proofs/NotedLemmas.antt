@@ -17,7 +17,8 @@ use Rattle.reg_report.specs.Keys.{text_cmp}
 use Rattle.reg_export.specs.declared.notes.TextOfKey.{TextOfKey}
 use Rattle.reg_export.specs.Chosen.{IsContested}
 use Rattle.reg_export.specs.Noted.{Noted, At, noted, has_several, Holds, with_text, with_note, HasOthers, Tells}
-use Rattle.reg_export.proofs.TextLemmas.{same_bytes, other_bytes, same_key, key_itself}
+use Rattle.reg_export.proofs.TextLemmas.{same_key, key_itself}
+use Rattle.wkt_crs.proofs.Defining.{same_bytes, not_same}
 
 pub nothing_held : (m : BTreeMap KeyText TextOfKey) → m.entries ≡ [] → Holds m (λ _. None)
 nothing_held m e q = ap (λ l. noted (lookup (λ k. is_eq (text_cmp q k)) l)) e
@@ -57,7 +58,7 @@ module _ (done : List Row) (r : Row) (k : KeyBytes) (keyed : HasKey r.definition
       by : (s p : Bool) → pointwise nat_eq n.text text ≡ p → HasOthers done k n.text s → HasOthers (done ++ r ∷ []) k n.text (s || not p)
       by true p e m = (m.0, wider m.0 m.1, m.2, m.3)
       by false true e m = each n.text m (sym own ∙ sym (same_bytes n.text text e))
-      by false false e m = (r, last, keyed, λ same. other_bytes n.text text e (sym same ∙ sym own))
+      by false false e m = (r, last, keyed, λ same. not_same n.text text e (sym same ∙ sym own))
 
   other_key : (l : KeyBytes) → is_eq (key_cmp k l) ≡ false → (o : Option Noted) → Tells done l o → Tells (done ++ r ∷ []) l o
   other_key l differs o tells = by o tells
@@ -100,7 +101,7 @@ contested_is rs k r (Some n) there keyed (one, more) = by n.several more
       where
         two : (p : Bool) → pointwise nat_eq r.definition n.text ≡ p → IsContested rs r
         two true e = contested m.0 m.1 m.2 (λ same. m.3 (same ∙ same_bytes r.definition n.text e))
-        two false e = contested one.0 one.1 one.2 (λ same. other_bytes r.definition n.text e (sym same ∙ one.3))
+        two false e = contested one.0 one.1 one.2 (λ same. not_same r.definition n.text e (sym same ∙ one.3))
     by false m = (
       λ t. let no : false ≡ true = t in absurd cc,
       λ c.

@@ -1,8 +1,7 @@
 -- Sorted lists, and sorted lists without duplicates.
-use Rattle.std.proofs.Common.{◌≡◌, ◌↔◌, ◌⊎◌, Bool, true, false, List, [], ◌∷◌, map, zero, suc, refl, sym, ap, ◌∙◌, subst, inl, inr, arith}
+use Rattle.std.proofs.Common.{◌≡◌, ◌↔◌, Bool, true, false, List, [], ◌∷◌, map, refl, sym, ap, ◌∙◌, subst}
 use Rattle.std.proofs.lemmas.Bool.{true≢false}
 use Rattle.std.proofs.lemmas.Cmp.{on_total, tied_itself, eq_by_cmp_equiv}
-use Rattle.std.proofs.lemmas.List.Elements.{Contains-append_right}
 use Rattle.std.proofs.lemmas.List.Kept.{Any-dedup, Contains-from_dedup, IsStrictlySortedBy-dedup}
 use Rattle.std.specs.Cmp.{IsTotalOrder, IsEquivalence, Equal-is}
 use Rattle.std.specs.List.{Contains, dedup, AllByRecursion as ByRecursion}
@@ -10,30 +9,7 @@ use Rattle.std.specs.List.Sorted.{IsSorted, IsStrictlySortedBy}
 use Rattle.std.specs.Ordering.{is_eq}
 use Rattle.std.specs.declared.cmp.Ordering.{Ordering}
 use Rattle.std.specs.declared.cmp.Ordering.TheVariants.{Less, Equal}
-
-pub none_in : {X : Type 0} (x : X) → Contains [] x → ⊥
-none_in x (k, lt, e) = omega (arith, lt)
-
-pub in_cons : {X : Type 0} (x y : X) (ys : List X) → Contains (y ∷ ys) x → (x ≡ y) ⊎ Contains ys x
-in_cons x y ys (zero, lt, e) = inl (sym e)
-in_cons x y ys (suc k, lt, e) = inr (k, omega arith, e)
-
-pub in_head : {X : Type 0} (x : X) (ys : List X) → Contains (x ∷ ys) x
-in_head x ys = (0, omega arith, refl)
-
-pub in_map : {X Y : Type 0} (f : X → Y) (xs : List X) (x : X) → Contains xs x → Contains (map f xs) (f x)
-in_map f [] x c = absurd (none_in x c)
-in_map f (y ∷ ys) x c = elim (in_cons x y ys c) [
-  | inl e ↦ subst (λ z. Contains (map f (y ∷ ys)) (f z)) (sym e) (in_head (f y) (map f ys))
-  | inr d ↦ Contains-append_right (f y ∷ []) (map f ys) (f x) (in_map f ys x d)
-]
-
-pub from_map : {X Y : Type 0} (f : X → Y) (xs : List X) (y : Y) → Contains (map f xs) y → (x : X) × Contains xs x × (y ≡ f x)
-from_map f [] y c = absurd (none_in y c)
-from_map f (x ∷ xs) y c = elim (in_cons y (f x) (map f xs) c) [
-  | inl e ↦ (x, in_head x xs, e)
-  | inr d ↦ let r = from_map f xs y d in (r.0, Contains-append_right (x ∷ []) xs r.0 r.1, r.2)
-]
+use Rattle.reg_report.proofs.ConflictLemmas.{in_map, from_map}
 
 -- elements that are compared by their images under f
 module _ {X K : Type 0} {R : K → K → Ordering} (o : IsTotalOrder R) (same : (a b : K) → R a b ≡ Equal → a ≡ b) (f : X → K) (E : X → X → Bool) (exact : (x y : X) → (E x y ≡ true) ↔ (f x ≡ f y)) where

@@ -1,5 +1,5 @@
 -- The notes on names, name by name, and what they say of the texts.
-use Rattle.std.proofs.Common.{◌≡◌, ◌≢◌, ◌⊎◌, ℕ, Bool, true, false, not, ◌&&◌, ◌||◌, cond, List, [], ◌∷◌, ◌++◌, map, length, Option, Some, None, refl, sym, ap, ◌∙◌, subst, inl, inr, append_assoc, append-nil, arith}
+use Rattle.std.proofs.Common.{◌≡◌, ◌≢◌, ◌⊎◌, ℕ, Bool, true, false, not, ◌&&◌, ◌||◌, cond, List, [], ◌∷◌, ◌++◌, map, Option, Some, None, refl, sym, ap, ◌∙◌, subst, inl, inr, append_assoc, append-nil}
 use Rattle.std.specs.Prelude.{Contains}
 use Rattle.std.specs.List.{list_any}
 use Rattle.std.specs.Str.{bytes_eq}
@@ -17,7 +17,7 @@ use Rattle.std.proofs.lemmas.Slice.Eq.{bytes_eq-Decides}
 use Rattle.reg_export.specs.declared.twins.NameTwin.{NameTwin}
 use Rattle.reg_export.specs.KeyFiles.{KeyedText, plain_name, lower, differ_by_case, has_twin}
 use Rattle.reg_export.specs.Twins.{vec_cmp, Noted, At, noted, has_several, Holds, with_name, with_note, HasOthers, Tells}
-use Rattle.reg_export.proofs.SortLemmas.{none_in, in_cons, in_head, in_map, from_map}
+use Rattle.reg_report.proofs.ConflictLemmas.{none_in, in_cons, in_head, in_map, from_map, any_of_member}
 
 pub nothing_held : (m : BTreeMap (Vec ℕ) NameTwin) → m.entries ≡ [] → Holds m (λ _. None)
 nothing_held m e q = ap (λ l. noted (lookup (λ k. is_eq (vec_cmp q k)) l)) e
@@ -101,23 +101,7 @@ more_done all done rest others n e f = e ∙ ap (λ l. done ++ l) f ∙ sym (app
 pub all_done : (all done rest : List (List ℕ)) → all ≡ done ++ rest → rest ≡ [] → all ≡ done
 all_done all done rest e f = e ∙ ap (λ l. done ++ l) f ∙ append-nil done
 
-pub none_left : {X Y : Type 0} (f : X → Y) (xs : List X) → length xs ≡ 0 → map f xs ≡ []
-none_left f [] e = refl
-none_left f (x ∷ xs) e = absurd (omega (arith, e))
-
 -- ---- whether a name has a twin
-
--- a test that an element of the list passes; and one that none passes
-found : {X : Type 0} (p : X → Bool) (xs : List X) (x : X) → Contains xs x → p x ≡ true → list_any p xs ≡ true
-found p [] x there e = absurd (none_in x there)
-found p (y ∷ ys) x there e = elim (in_cons x y ys there) [
-  | inl same ↦ let first = subst (λ z. p z ≡ true) same e in rw first refl
-  | inr later ↦ let rest = found p ys x later e in by (p y) (list_any p ys) rest
-]
-  where
-    by : (s t : Bool) → t ≡ true → (s || t) ≡ true
-    by true t e = refl
-    by false t e = e
 
 not_found : {X : Type 0} (p : X → Bool) (xs : List X) → ((x : X) → Contains xs x → p x ≡ false) → list_any p xs ≡ false
 not_found p [] none = refl
@@ -142,7 +126,7 @@ same_or_not n m one = by (bytes_eq (lower n) (lower m)) (bytes_eq n m) refl refl
     by true false e f = absurd (other_name n m f (one ((bytes_eq-Decides (lower n) (lower m)).0 e)))
 
 pub twin_found : (ts : List KeyedText) (u : KeyedText) (n : List ℕ) → Contains ts u → lower (plain_name u) ≡ lower n → (plain_name u ≡ n → ⊥) → has_twin ts n ≡ true
-twin_found ts u n there alike other = found (λ t. differ_by_case (plain_name t) n) ts u there (differs (plain_name u) n alike other)
+twin_found ts u n there alike other = any_of_member (λ t. differ_by_case (plain_name t) n) ts u there (differs (plain_name u) n alike other)
 
 pub twin_is : (ts : List KeyedText) (t : KeyedText) (o : Option Noted) → Contains ts t → Tells (map plain_name ts) (lower (plain_name t)) o → has_several o ≡ has_twin ts (plain_name t)
 twin_is ts t None there none = absurd (none (plain_name t) (in_map plain_name ts t there) refl)

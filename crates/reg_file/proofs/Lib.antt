@@ -1,6 +1,5 @@
 pub mod ApartLemmas
 pub mod BodyLemmas
-pub mod ChunkLemmas
 pub mod DefinitionLemmas
 pub mod ExactLemmas
 pub mod FieldLemmas

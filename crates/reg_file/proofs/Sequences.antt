@@ -1,10 +1,10 @@
 -- Parts of a file that are read in sequence.
-use Rattle.std.proofs.Common.{◌≡◌, ℕ, suc, ◌<◌, List, [], ◌∷◌, ◌++◌, length, Result, refl, sym, subst, arith, inl, inr}
+use Rattle.std.proofs.Common.{◌≡◌, ℕ, ◌<◌, List, [], ◌∷◌, ◌++◌, length, Result, refl, sym, subst, inl, inr}
 use Rattle.reg_file.specs.declared.fault.Refused.{Refused}
 use Rattle.reg_file.specs.declared.fault.Stop.{Stop}
 use Rattle.reg_file.specs.declared.fault.Stop.TheVariants as stop
 use Rattle.reg_file.specs.Fields.{Fails}
-use Rattle.reg_file.specs.Readers.{Portion, field, ◌behind◌, ReadsEach, state_after, FailsAtOne, StopsIn, repeated}
+use Rattle.reg_file.specs.Readers.{Portion, field, ◌behind◌, ReadsEach, state_after, StopsIn, repeated}
 
 pub stops_field : {A : Type 0} (read : List ℕ → Result (A × List ℕ) Refused) (bytes : List ℕ) (s : Stop) → Fails s (read bytes) → StopsIn (field read) bytes s
 stops_field read bytes stop.Memory h = tt
@@ -28,10 +28,6 @@ module _ {A S : Type 0} (item : S → Portion A) (next : S → A → S) where
   pub each-push : (s : S) (bytes : List ℕ) (xs : List A) (mid : List ℕ) (x : A) (rest : List ℕ) → ReadsEach item next s bytes xs mid → (item (state_after next s xs)).Reads mid x rest → ReadsEach item next s bytes (xs ++ x ∷ []) rest
   each-push s bytes [] mid x rest h k = (rest, subst (λ b. (item s).Reads b x rest) (sym h) k, refl)
   each-push s bytes (y ∷ xs) mid x rest h k = (h.0, h.1, each-push (next s y) h.0 xs mid x rest h.2 k)
-
-  -- a fault in the items after the first is a fault of the sequence
-  pub fails_later : (s : S) (count : ℕ) (bytes : List ℕ) (x : A) (mid : List ℕ) (r : Refused) → (item s).Reads bytes x mid → FailsAtOne item next (next s x) count mid r → FailsAtOne item next s (suc count) bytes r
-  fails_later s count bytes x mid r h f = record { before = x ∷ f.before; rest = f.rest; reads = (mid, h, f.reads); fewer = (let k : length f.before < count = f.fewer in omega arith); fails = f.fails }
 
 module _ {A S : Type 0} (item : S → Portion A) (next : S → A → S) where
   pub stops_at_one : (s : S) (count : ℕ) (bytes : List ℕ) (xs : List A) (rest : List ℕ) (e : Stop) → ReadsEach item next s bytes xs rest → length xs < count → StopsIn (item (state_after next s xs)) rest e

@@ -98,9 +98,6 @@ module _ (version : ℕ) (bytes rest : List ℕ) (head : head_at version 2 bytes
   behind_head : (s : Stop) → StopsIn (ranges set.empty behind (λ gs. ended)) rest s → StopsIn (summary version) bytes s
   behind_head s h = stops_back (field (head_at version 2)) (λ x. ranges set.empty behind (λ gs. ended)) bytes tt rest s head h
 
-  pub stops_in_summary : (s : Stop) → StopsIn (ranges none) rest s → StopsIn (summary version) bytes s
-  stops_in_summary s h = behind_head s (stops_front (ranges set.empty) (λ gs. ended) rest s (subst (λ b. StopsIn (ranges b) rest s) is_none h))
-
   module _ (ids : Ids) (left : List ℕ) (a : ReadsSeen none rest ids left) where
     pub stops_behind_summary : (s : Stop) → StopsIn ended left s → StopsIn (summary version) bytes s
     stops_behind_summary s h =

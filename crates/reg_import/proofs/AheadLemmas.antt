@@ -21,7 +21,7 @@ use Rattle.reg_op.proofs.StatusLemmas.{enters-kept}
 use Rattle.reg_state.specs.Runs.{id_at}
 use Rattle.reg_office.specs.declared.fault.OfficeFault.{OfficeFault}
 use Rattle.reg_office.specs.declared.fault.OfficeFault.TheVariants as fault
-use Rattle.reg_office.specs.Making.{greatest, numbered, objection, objections, with_op, else_next, note_fault, is_spent, made_unless, made}
+use Rattle.reg_office.specs.Making.{greatest, numbered, objection, objections, with_op, else_next, note_fault, is_spent, made}
 use Rattle.reg_office.specs.World.{World, start, Event, Make, Send, SendSeen, SendPiece, SendFirst, Take, TakeOne, Restart, Upgrade, Stop, Happens, Leads, IsWorld}
 use Rattle.reg_office.specs.Reached.{IsMadeBy}
 use Rattle.reg_office.proofs.EffectLemmas.{nothing_against}
@@ -34,6 +34,7 @@ use Rattle.reg_office.proofs.WorldLemmas.{starts, after_keeps, reached}
 use Rattle.reg_office.proofs.WorldSteps.{made_reaches}
 use Rattle.reg_office.proofs.WorldStops.{stop_is_all_or_nothing}
 use Rattle.reg_office.proofs.WorldMade.{known_or_made}
+use Rattle.reg_office.proofs.NewLemmas.{not_refused}
 
 -- ---- a command retires or supersedes entries of the register, or ids of its own operations
 
@@ -76,10 +77,6 @@ entered_or_made x (q ∷ os) o e none h is =
         | inr m ↦ inr (m.0, or_right (eq_by_cmp op_cmp m.0 q) _ m.1, m.2)
       ]
     ]
-
-not_refused : (f : Option OfficeFault) (spent : Bool) (os ps : List Op) → made_unless f spent os ≡ Ok ps → f ≡ None
-not_refused None spent os ps h = refl
-not_refused (Some f) spent os ps h = absurd cc
 
 none_against : (x : Content) (r note : List ℕ) (bs : List Body) (os : List Op) → made x r note bs ≡ Ok os → objections x os ≡ None
 none_against x r note bs os h =

@@ -2,8 +2,6 @@
 use Rattle.std.proofs.Common.{◌≡◌, ℕ, ◌+◌, Bool, true, false, not, cond, List, [], ◌∷◌, ◌++◌, filter, length, Some, None, refl, sym, ap, ◌∙◌, subst, inl, inr, ◌⊎◌}
 use Rattle.std.proofs.lemmas.Bool.{true≢false, or_cases, or_left, or_right, false_from_ne_true}
 use Rattle.std.specs.List.{list_any, flat_map}
-use Rattle.std.specs.Cmp.{tied_itself}
-use Rattle.std.specs.Ordering.{is_eq, is_lt}
 use Rattle.crs_value.specs.declared.key.Key.{Key}
 use Rattle.reg_op.specs.Set as set
 use Rattle.reg_op.specs.Set.{contains, contains-items}
@@ -15,11 +13,13 @@ use Rattle.reg_op.specs.declared.operation.OpBody.TheVariants.{Enter, Supersede,
 use Rattle.reg_op.specs.Rows.{Row, rows_at, newer_of}
 use Rattle.reg_op.specs.Status.{enters, retires, supersedes, status}
 use Rattle.reg_op.specs.declared.status.Status.TheVariants.{Retired, Superseded, Valid}
-use Rattle.reg_op.proofs.OpLemmas.{id_total, op_total, is_same_exact}
+use Rattle.reg_op.proofs.OpLemmas.{is_same_exact, not_before_itself}
 use Rattle.reg_state.specs.Runs.{id_at}
 use Rattle.reg_report.specs.Conflicts.{KeyBytes, bytes_of}
 use Rattle.reg_report.specs.Exports.{is_retired}
 use Rattle.reg_office.proofs.NumberLemmas.{op_cases}
+use Rattle.reg_office.proofs.BodyLemmas.{same_itself}
+use Rattle.reg_office.proofs.WorldSteps.{head_has}
 use Rattle.reg_report.proofs.PairLemmas.{it_enters}
 use Rattle.reg_import.specs.declared.standing_entry.StandingEntry.{StandingEntry}
 use Rattle.reg_import.specs.declared.reading.ReadText.{ReadText}
@@ -32,9 +32,6 @@ use Rattle.reg_import.specs.Plans.{retired}
 use Rattle.reg_import.proofs.KnownLemmas.{same_key, key_itself}
 use Rattle.reg_import.proofs.ToldLemmas.{told_has}
 use Rattle.reg_import.proofs.OnceLemmas.{Once, and_retired, once_append}
-
-same_itself : (i : Id) → is_same i i ≡ true
-same_itself i = ap is_eq (tied_itself id_total i)
 
 -- one of the entries has the id
 abbrev among : Id → List StandingEntry → Bool
@@ -173,9 +170,6 @@ Apart before os = (i : Id) → list_any (is_same i) before ≡ true → (o : Op)
 has_later : (o p : Op) (os : List Op) → has os p ≡ true → has (o ∷ os) p ≡ true
 has_later o p os h = or_right _ (has os p) h
 
-not_before_itself : (i : Id) → is_before i i ≡ true → ⊥
-not_before_itself i h = true≢false (sym h ∙ ap is_lt (tied_itself id_total i))
-
 later_differs : (i : Id) (os : List Op) → AllAfter i os → (o : Op) → has os o ≡ true → is_same i o.id ≡ false
 later_differs i [] all o h = absurd (true≢false (sym h))
 later_differs i (p ∷ os) all o h = elim (op_cases o p os h) [
@@ -184,9 +178,6 @@ later_differs i (p ∷ os) all o h = elim (op_cases o p os h) [
       not_before_itself p.id (subst (λ j. is_before j p.id ≡ true) same all.0))
   | inr e ↦ later_differs i os all.1 o e
 ]
-
-itself : (o : Op) (os : List Op) → has (o ∷ os) o ≡ true
-itself o os = or_left _ (has os o) (ap is_eq (tied_itself op_total o))
 
 abbrev rows_of : Ops → List Op → List Row
 rows_of s os = flat_map (λ (o : Op). rows_at s o.id o.body) os
@@ -209,7 +200,7 @@ module _ (s : Ops) (before : List Id) (o : Op) (os : List Op) (es : List Standin
             subst (CanRetire s before) (sym a.4) (
               subst (λ i. enters s i ≡ true) (sym id) entered,
               subst (λ i. retires s i ≡ false) (sym id) (not_retired s o.id entered up_there),
-              subst (λ i. list_any (is_same i) before ≡ false) (sym id) (false_from_ne_true _ (λ t. true≢false (sym (same_itself o.id) ∙ apart o.id t o (itself o os)))),
+              subst (λ i. list_any (is_same i) before ≡ false) (sym id) (false_from_ne_true _ (λ t. true≢false (sym (same_itself o.id) ∙ apart o.id t o (head_has o os)))),
               later (a.0.entry ∷ before) a.1 (λ i m p h. elim (or_cases (is_same i a.0.entry) (list_any (is_same i) before) m) [
                 | inl q ↦ subst (λ j. is_same j p.id ≡ false) (sym (is_same_exact i a.0.entry q ∙ id)) (later_differs o.id os after p h)
                 | inr q ↦ apart_rest i q p h
@@ -226,7 +217,7 @@ module _ (s : Ops) (before : List Id) (o : Op) (os : List Op) (es : List Standin
 can_rows : (s : Ops) (os : List Op) → ((o : Op) → has os o ≡ true → contains s o ≡ true) → ById os → CanLater s os
 can_rows s [] there up before es apart are = subst (CanRetire s before) (sym are) tt
 can_rows s (o ∷ os) there up before es apart are =
-    can_body s before o os es (there o (itself o os)) up.0 apart (can_rows s os (λ p h. there p (has_later o p os h)) up.1) o.body refl are
+    can_body s before o os es (there o (head_has o os)) up.0 apart (can_rows s os (λ p h. there p (has_later o p os h)) up.1) o.body refl are
 
 pub can_standing : (s : Ops) (es : List StandingEntry) → ById (set.items s) → AreStanding s es → CanRetire s [] es
 can_standing s es up are = can_rows s (set.items s) (λ o h. contains-items s o ∙ h) up [] es (λ i m o h. absurd (true≢false (sym m))) are

@@ -13,10 +13,8 @@ use Rattle.reg_office.proofs.NumberLemmas.{made_ok}
 use Rattle.reg_import.specs.declared.reading.ReadText.{ReadText}
 use Rattle.reg_import.specs.declared.action.Differs.{Differs}
 use Rattle.reg_import.specs.declared.action.TextAction.{TextAction}
-use Rattle.reg_import.specs.declared.import.ImportRefusal.{ImportRefusal}
-use Rattle.reg_import.specs.declared.import.ImportRefusal.TheVariants as refusal
 use Rattle.reg_import.specs.Imports.{Step, effects}
-use Rattle.reg_import.specs.Plans.{AreSteps, Plans, AreNumbered, IsRefusedPlan, IsPassedPlan, Imports, IsImportRefusal}
+use Rattle.reg_import.specs.Plans.{AreSteps, Plans, IsPassedPlan, Imports}
 use Rattle.reg_import.proofs.NumberedLemmas.{length_numbered}
 use Rattle.reg_import.proofs.OnceLemmas.{Once, nothing_against, none_dropped}
 use Rattle.reg_import.proofs.FreshLemmas.{imports_once}
@@ -30,9 +28,6 @@ no_note_fault note h = λ j. cond (not_long (length note) h j) (Some fault.NoteT
 module _ (x : Content) (r note : List ℕ) (d : Differs) (texts : List ReadText) (ts : List TextAction) (ops : List Op) where
   steps_once : (steps : List Step) → ById (set.items x.ops) → AreSteps x r d texts steps → Once x.ops [] (effects steps)
   steps_once steps up are = subst (λ s. Once x.ops [] (effects s)) (sym are.2) (imports_once x.ops are.0 d r (greatest r x.seen + 1) texts up are.1)
-
-  pub plan_is_numbered : Plans x r note d texts ts ops → AreNumbered r (greatest r x.seen + 1) ops
-  plan_is_numbered p = (note, (effects p.0, p.2.made))
 
   pub plan_is_kept : ById (set.items x.ops) → Plans x r note d texts ts ops → first_dropped (set.from_list {R = op_cmp} ops) ≡ None
   plan_is_kept up p = ap (λ (l : List Op). first_dropped (set.from_list l)) p.2.made ∙ none_dropped x.ops r (greatest r x.seen + 1) note (effects p.0) (steps_once p.0 up p.1)
@@ -55,12 +50,6 @@ module _ (x : Content) (r note : List ℕ) (d : Differs) (texts : List ReadText)
           their_ids = refl;
         };
       }
-
-  pub plan_is_refused : (keep_going : Bool) (f : ImportRefusal) → length note ≤ 200 → Plans x r note d texts ts ops → IsRefusedPlan keep_going ts f → IsImportRefusal x r note d keep_going texts f
-  plan_is_refused keep_going refusal.NoteTooLong short p h = absurd h
-  plan_is_refused keep_going (refusal.Refused at problem) short p h = (short, (p.0, p.1, subst (λ l. IsRefusedPlan keep_going l (refusal.Refused at problem)) p.2.told h))
-  plan_is_refused keep_going refusal.CountSpent short p h = (short, (p.0, p.1, subst (λ l. IsRefusedPlan keep_going l refusal.CountSpent) p.2.told h))
-  plan_is_refused keep_going refusal.Memory short p h = absurd h
 
 -- joining no operations leaves the content unchanged
 pub joined_none : (x : Content) (ops : List Op) → IsContent x → length ops ≡ 0 → joined x (state (set.from_list {R = op_cmp} ops)) ≡ Ok x

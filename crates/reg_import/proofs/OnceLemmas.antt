@@ -1,12 +1,10 @@
 -- Effects that retire each entry once meet no objection, and none of their operations replaces another.
 use Rattle.std.proofs.Common.{◌≡◌, ℕ, ◌+◌, Bool, true, false, not, ◌&&◌, ◌||◌, cond, List, [], ◌∷◌, ◌++◌, Some, None, refl, sym, ap, ◌∙◌, subst, inl, inr}
 use Rattle.std.specs.Prelude.{option_map}
-use Rattle.std.proofs.lemmas.Bool.{true≢false, or_left, and_parts, false_from_ne_true}
+use Rattle.std.proofs.lemmas.Bool.{true≢false, or_left, and_parts, false_from_ne_true, or_parts}
+use Rattle.std.proofs.Math.Bool.{or-false}
 use Rattle.std.specs.List.{list_any}
-use Rattle.std.specs.Cmp.{tied_itself}
-use Rattle.std.specs.Ordering.{is_eq}
 use Rattle.reg_op.specs.Set as set
-use Rattle.reg_op.specs.Set.{contains, contains-from_list}
 use Rattle.reg_op.specs.Ids.{Id, is_same, is_before}
 use Rattle.reg_op.specs.Finite.{any}
 use Rattle.reg_op.specs.Lists.{has}
@@ -15,10 +13,9 @@ use Rattle.reg_op.specs.declared.operation.OpBody.{OpBody as Body}
 use Rattle.reg_op.specs.declared.operation.OpBody.TheVariants.{Enter, Supersede, Retire}
 use Rattle.reg_op.specs.Contents.{Content}
 use Rattle.reg_op.specs.Status.{enters, retires, is_enter, is_retirement}
-use Rattle.reg_op.proofs.FiniteLemmas.{any-union, member_from_any}
-use Rattle.reg_op.proofs.OpLemmas.{id_total, op_total, op_exact, is_same_exact, replaces_irreflexive}
+use Rattle.reg_op.proofs.FiniteLemmas.{member_from_any}
+use Rattle.reg_op.proofs.OpLemmas.{op_total, op_exact, is_same_exact, replaces_irreflexive}
 use Rattle.reg_op.proofs.ContentLemmas.{kept-union_right}
-use Rattle.reg_op.proofs.OneLemmas.{any-from_list}
 use Rattle.reg_op.proofs.StatusLemmas.{enters-kept, retires-kept}
 use Rattle.reg_op.proofs.ClashLemmas.{find_none}
 use Rattle.reg_state.specs.Runs.{id_at}
@@ -26,6 +23,9 @@ use Rattle.reg_state.specs.Tables.{first_dropped}
 use Rattle.reg_office.specs.declared.fault.OfficeFault.TheVariants as fault
 use Rattle.reg_office.specs.Making.{numbered, with_op, else_next, objections}
 use Rattle.reg_office.proofs.NumberLemmas.{op_cases}
+use Rattle.reg_office.proofs.BodyLemmas.{same_itself}
+use Rattle.reg_office.proofs.NewLemmas.{in_list}
+use Rattle.reg_office.proofs.EffectLemmas.{any-with}
 
 -- the effects enter entries, or retire entries that are entered, not retired and not in `before`, each once
 abbrev pub Once : Ops → List Id → List Body → Type 0
@@ -47,9 +47,6 @@ once_append ops before (Enter text ∷ bs) cs a b = once_append ops before bs cs
 once_append ops before (Supersede old newer ∷ bs) cs a b = absurd a
 once_append ops before (Retire e ∷ bs) cs a b = (a.0, a.1, a.2, once_append ops (e ∷ before) bs cs a.3 b)
 
-same_itself : (i : Id) → is_same i i ≡ true
-same_itself i = ap is_eq (tied_itself id_total i)
-
 -- ---- they meet no objection
 
 -- `now` enters all entries of `ops`, and retires exactly those that `ops` retires and those in `before`
@@ -57,19 +54,12 @@ record Grown (ops : Ops) (before : List Id) (now : Ops) : Type 0 where
   entered : (e : Id) → enters ops e ≡ true → enters now e ≡ true
   retired : (e : Id) → retires now e ≡ (retires ops e || list_any (is_same e) before)
 
-or_end : (a : Bool) → (a || false) ≡ a
-or_end true = refl
-or_end false = refl
-
 or_turn : (a b c : Bool) → ((a || b) || c) ≡ (a || (c || b))
 or_turn true b c = refl
 or_turn false true true = refl
 or_turn false true false = refl
 or_turn false false true = refl
 or_turn false false false = refl
-
-any-with : (t : Op → Bool) (s : Ops) (o : Op) → any t (set.union s (one o)) ≡ (any t s || t o)
-any-with t s o = any-union op_total op_exact t s (one o) ∙ ap (λ b. any t s || b) (any-from_list t (o ∷ []) ∙ or_end (t o))
 
 module _ (ops : Ops) (before : List Id) (y : Content) (i : Id) (b : Body) (note : List ℕ) (g : Grown ops before y.ops) where
   abbrev made : Op
@@ -90,7 +80,7 @@ module _ (ops : Ops) (before : List Id) (y : Content) (i : Id) (b : Body) (note 
 against_none : (ops : Ops) (before : List Id) (y : Content) (r : List ℕ) (n : ℕ) (note : List ℕ) (bs : List Body) → Grown ops before y.ops → Once ops before bs → objections y (numbered r n note bs) ≡ None
 against_none ops before y r n note [] g once = refl
 against_none ops before y r n note (Enter text ∷ bs) g once =
-    against_none ops before (with_op y (record { id = id_at r n; body = Enter text; note = note })) r (n + 1) note bs (grown ops before y (id_at r n) (Enter text) note g before (λ e. or_end _)) once
+    against_none ops before (with_op y (record { id = id_at r n; body = Enter text; note = note })) r (n + 1) note bs (grown ops before y (id_at r n) (Enter text) note g before (λ e. or-false _)) once
 against_none ops before y r n note (Supersede old newer ∷ bs) g once = absurd once
 against_none ops before y r n note (Retire e ∷ bs) g once =
     let there : enters y.ops e ≡ true = g.entered e once.0 in
@@ -100,7 +90,7 @@ against_none ops before y r n note (Retire e ∷ bs) g once =
     (λ j. else_next (cond (not (there j)) (Some (fault.UnknownEntry e)) (cond (stands j) (Some (fault.AlreadyRetired e)) None)) (rest j))
 
 pub nothing_against : (x : Content) (r : List ℕ) (n : ℕ) (note : List ℕ) (bs : List Body) → Once x.ops [] bs → objections x (numbered r n note bs) ≡ None
-nothing_against x r n note bs once = against_none x.ops [] x r n note bs (record { entered = λ e h. h; retired = λ e. sym (or_end (retires x.ops e)) }) once
+nothing_against x r n note bs once = against_none x.ops [] x r n note bs (record { entered = λ e h. h; retired = λ e. sym (or-false (retires x.ops e)) }) once
 
 -- ---- none replaces another
 
@@ -110,14 +100,10 @@ IsOne before (Enter text) = Unit {0}
 IsOne before (Supersede old newer) = ⊥
 IsOne before (Retire e) = list_any (is_same e) before ≡ false
 
-or_none : (a b : Bool) → (a || b) ≡ false → (a ≡ false) × (b ≡ false)
-or_none true b h = absurd (true≢false h)
-or_none false b h = (refl, h)
-
 fewer : (e : Id) (before : List Id) (b : Body) → IsOne (e ∷ before) b → IsOne before b
 fewer e before (Enter text) h = h
 fewer e before (Supersede old newer) h = h
-fewer e before (Retire f) h = (or_none (is_same f e) (list_any (is_same f) before) h).1
+fewer e before (Retire f) h = (or_parts (is_same f e) (list_any (is_same f) before) h).1
 
 module _ (ops : Ops) (r : List ℕ) (note : List ℕ) where
   abbrev at : ℕ → Body → Op
@@ -139,7 +125,7 @@ module _ (ops : Ops) (r : List ℕ) (note : List ℕ) where
   no_more : (before : List Id) (n : ℕ) (bs : List Body) (e f : Id) (o : Op) → Once ops (e ∷ before) bs → has (numbered r n note bs) o ≡ true → o.body ≡ Retire f → f ≡ e → ⊥
   no_more before n bs e f o once h b same =
       let is = subst (IsOne (e ∷ before)) b (one_of (e ∷ before) n bs o once h) in
-      true≢false (sym (subst (λ i. is_same f i ≡ true) same (same_itself f)) ∙ (or_none (is_same f e) (list_any (is_same f) before) is).0)
+      true≢false (sym (subst (λ i. is_same f i ≡ true) same (same_itself f)) ∙ (or_parts (is_same f e) (list_any (is_same f) before) is).0)
 
   retired_once : (before : List Id) (n : ℕ) (bs : List Body) (p o : Op) (e f : Id) → Once ops before bs → has (numbered r n note bs) p ≡ true → has (numbered r n note bs) o ≡ true → p.body ≡ Retire e → o.body ≡ Retire f → e ≡ f → p ≡ o
   retired_once before n [] p o e f once h k a b same = absurd (true≢false (sym h))
@@ -190,9 +176,6 @@ module _ (ops : Ops) (r : List ℕ) (note : List ℕ) where
 
 abbrev of_list : List Op → Ops
 of_list os = set.from_list {R = op_cmp} os
-
-in_list : (os : List Op) (o : Op) → contains (of_list os) o ≡ true → has os o ≡ true
-in_list os o h = sym (contains-from_list op_total os o) ∙ h
 
 pub none_dropped : (ops : Ops) (r : List ℕ) (n : ℕ) (note : List ℕ) (bs : List Body) → Once ops [] bs → first_dropped (of_list (numbered r n note bs)) ≡ None
 none_dropped ops r n note bs once =

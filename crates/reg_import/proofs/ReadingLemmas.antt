@@ -2,38 +2,26 @@
 use Rattle.std.proofs.Common.{◌≡◌, ◌≢◌, ℕ, ◌<◌, ◌≤◌, List, length, refl, sym, ap, ◌∙◌, subst, arith}
 use Rattle.crs_value.specs.declared.crs.Crs.{Crs}
 use Rattle.crs_value.specs.declared.key.Key.{Key}
-use Rattle.wkt_crs.specs.declared.fault.ReadFault.TheVariants as read
 use Rattle.wkt_crs.specs.declared.fault.Unspelled.{Unspelled}
-use Rattle.wkt_crs.specs.declared.fault.Unspelled.TheVariants as refused
 use Rattle.wkt_crs.specs.declared.definition.DefinitionFault.{DefinitionFault}
 use Rattle.wkt_crs.specs.declared.definition.DefinitionFault.TheVariants as fault
 use Rattle.wkt_crs.specs.Unspelled.{as_read}
-use Rattle.wkt_crs.specs.Spells.{Spells, SpellsCanon, canon}
+use Rattle.wkt_crs.specs.Spells.{Spells, canon}
 use Rattle.wkt_crs.specs.Faults.{FirstFault}
-use Rattle.wkt_crs.specs.Definition.{HasNone, IsDefinition, IsKeyIn, IsTextFault}
+use Rattle.wkt_crs.specs.Definition.{HasNone, IsKeyIn, IsTextFault}
 use Rattle.wkt_crs.proofs.Texts.{one_value}
 use Rattle.wkt_crs.proofs.Verdicts.{value_or_fault, one_first_fault}
 use Rattle.wkt_crs.proofs.Written.{canonical_spells}
+use Rattle.wkt_crs.proofs.Defining.{not_memory, one_refusal}
 use Rattle.reg_import.specs.declared.reading.ReadText.{ReadText}
 use Rattle.reg_import.specs.declared.reading.ReadText.TheVariants as reading
 use Rattle.reg_import.specs.Readings.{IsReading}
 use Rattle.reg_import.specs.Again.{IsSameReading}
 use Rattle.reg_import.proofs.StandingLemmas.{one_key}
 
-no_memory : (f : Unspelled) → as_read f ≡ read.Memory → ⊥
-no_memory (refused.Text f) h = cc
-no_memory (refused.Slot f) h = cc
-no_memory (refused.Broken c place) h = cc
-
-same_read : (f g : Unspelled) → as_read f ≡ as_read g → f ≡ g
-same_read (refused.Text f) (refused.Text g) h = cc
-same_read (refused.Slot f) (refused.Slot g) h = cc
-same_read (refused.Broken c place) (refused.Broken d at) h = cc
-same_read f g h = cc
-
 -- a text that spells a value has no fault of reading
 spelled : (text : List ℕ) (v : Crs) (f : Unspelled) → Spells text v → FirstFault text (as_read f) → ⊥
-spelled text v f s h = no_memory f (value_or_fault text v (as_read f) s h)
+spelled text v f s h = not_memory f (value_or_fault text v (as_read f) s h)
 
 module _ (text definition : List ℕ) (key : Key) (h : IsReading text (reading.Defined definition key)) where
   abbrev value : Crs
@@ -59,7 +47,7 @@ one_fault text fault.Memory g h k m n = absurd (m refl)
 one_fault text fault.NotCanonical g h k m n = absurd h
 one_fault text f fault.Memory h k m n = absurd (n refl)
 one_fault text f fault.NotCanonical h k m n = absurd k
-one_fault text (fault.Read f) (fault.Read g) h k m n = ap fault.Read (same_read f g (one_first_fault text (as_read f) (as_read g) (no_memory f) (no_memory g) h k))
+one_fault text (fault.Read f) (fault.Read g) h k m n = ap fault.Read (one_refusal f g (one_first_fault text (as_read f) (as_read g) (not_memory f) (not_memory g) h k))
 one_fault text (fault.Read f) fault.NoIdentifier h k m n = absurd (spelled text k.0 f k.1 h)
 one_fault text (fault.Read f) fault.CanonicalTooLong h k m n = absurd (spelled text k.0 f k.1 h)
 one_fault text fault.NoIdentifier (fault.Read g) h k m n = absurd (spelled text h.0 g h.1 k)

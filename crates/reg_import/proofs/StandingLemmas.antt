@@ -15,9 +15,9 @@ use Rattle.reg_op.specs.Set.{contains, contains-items, contains-from_list, union
 use Rattle.reg_op.specs.Ids.{Id, is_before}
 use Rattle.reg_op.specs.Lists.{has}
 use Rattle.reg_op.specs.Kept.{entering}
-use Rattle.reg_op.specs.Operations.{Op, Ops, op_cmp, OneBody, kept, replaces_body}
+use Rattle.reg_op.specs.Operations.{Op, Ops, op_cmp, OneBody, kept}
 use Rattle.reg_op.specs.declared.operation.OpBody.{OpBody as Body}
-use Rattle.reg_op.specs.declared.operation.OpBody.TheVariants.{Enter, Supersede, Retire}
+use Rattle.reg_op.specs.declared.operation.OpBody.TheVariants.{Enter}
 use Rattle.reg_op.specs.Contents.{Content, state, nothing, merged, joined}
 use Rattle.reg_op.specs.Rows.{Row, rows, rows_at, newer_of}
 use Rattle.reg_op.specs.Status.{enters, retires, supersedes, status, is_retirement}
@@ -36,6 +36,7 @@ use Rattle.reg_report.proofs.ConflictLemmas.{none_in, in_cons, in_head, in_tail}
 use Rattle.reg_report.proofs.EntryLemmas.{row_is_entered}
 use Rattle.reg_office.proofs.LawLemmas.{made_are}
 use Rattle.reg_office.proofs.NumberLemmas.{op_cases}
+use Rattle.reg_office.proofs.NewLemmas.{over_enter}
 use Rattle.reg_report.proofs.PairLemmas.{it_enters}
 use Rattle.reg_report.proofs.RowLemmas.{row_status}
 use Rattle.reg_import.specs.declared.standing_entry.StandingEntry.{StandingEntry}
@@ -190,11 +191,6 @@ standing_entry s text h = (h.row.entry, subst (IsStandingEntry s h.row.entry) h.
 -- one of the effects retires the entry
 abbrev pub gone : Id → List Body → Bool
 gone i bs = list_any (is_retirement i) bs
-
-over_enter : (before : Bool) (b : Body) (text : List ℕ) → replaces_body before b (Enter text) ≡ true → ⊥
-over_enter before (Enter t) text h = true≢false (sym h)
-over_enter before (Supersede a n) text h = true≢false (sym h)
-over_enter before (Retire e) text h = true≢false (sym h)
 
 enter_kept : (s : Ops) (i : Id) (text note : List ℕ) → contains s (entering i text note) ≡ true → contains (kept s) (entering i text note) ≡ true
 enter_kept s i text note h = kept_has s (entering i text note) h (λ p m over. over_enter (is_before p.id i) p.body text over)

@@ -1,31 +1,23 @@
 -- The summary of entries, with one more entry.
-use Rattle.std.proofs.Common.{◌≡◌, ℕ, nat_eq, Bool, true, false, ◌&&◌, cond, List, [], ◌∷◌, ◌++◌, append_assoc, append-nil, length, Option, Some, None, refl, sym, ap, ◌∙◌, subst, arith}
-use Rattle.std.proofs.lemmas.Bool.{true≢false}
+use Rattle.std.proofs.Common.{◌≡◌, ℕ, Bool, true, false, ◌&&◌, cond, List, [], ◌∷◌, ◌++◌, Option, Some, None, refl, sym, ap, ◌∙◌}
 use Rattle.std.specs.Cmp.{Equal-is}
 use Rattle.std.proofs.lemmas.Cmp.{upto}
 use Rattle.std.specs.FinMap.{slice_cmp-IsAntisymmetric, nat_cmp-IsAntisymmetric}
-use Rattle.std.specs.Cmp.Lexicographic.{pointwise, slice_cmp, texts_ties}
+use Rattle.std.specs.Cmp.Lexicographic.{slice_cmp, texts_ties}
 use Rattle.std.specs.Ordering.{is_lt, is_gt, is_eq, nat_cmp, ordering_reverse}
-use Rattle.std.specs.BTreeMap.{BTreeMap, get, Updates}
+use Rattle.std.specs.BTreeMap.{get}
 use Rattle.std.specs.Global.{Vec}
 use Rattle.std.specs.declared.cmp.Ordering.{Ordering}
 use Rattle.std.specs.declared.cmp.Ordering.TheVariants.{Less, Equal, Greater}
 use Rattle.reg_op.specs.Ids.{Id, id_cmp, is_before}
-use Rattle.reg_op.proofs.OpLemmas.{id_total}
+use Rattle.reg_op.proofs.OpLemmas.{id_total, is_before_chain}
 use Rattle.reg_import.specs.declared.standing_entry.StandingEntry.{StandingEntry}
 use Rattle.reg_import.specs.declared.summary.Found.{Found}
 use Rattle.reg_import.specs.declared.summary.Summary.{Summary}
-use Rattle.reg_import.specs.Imports.{least, sooner, lesser, and_least, has_text, has_text_and_is_valid, any_entry}
+use Rattle.reg_import.specs.Imports.{least, sooner, and_least, has_text, has_text_and_is_valid, any_entry}
 use Rattle.reg_import.specs.Summary.{found, found_in, bytes_cmp, SumsUp}
 
 -- ---- the least of three ids
-
-less : (r : Ordering) → is_lt r ≡ true → r ≡ Less
-less Less h = refl
-less r h = cc
-
-before_chain : (a b c : Id) → is_before a b ≡ true → is_before b c ≡ true → is_before a c ≡ true
-before_chain a b c h k = ap is_lt (id_total.trans a b c (less _ h) (less _ k))
 
 lt_turned : (r : Ordering) → is_lt (ordering_reverse r) ≡ is_gt r
 lt_turned Less = refl
@@ -42,7 +34,7 @@ not_before_chain a b c h k = turned a c ∙ upto id_total c b a (sym (turned b c
 three : (a m e : Id) (p q : Bool) → is_before e m ≡ p → is_before m a ≡ q → sooner a (Some (sooner m (Some e))) ≡ sooner (sooner a (Some m)) (Some e)
 three a m e true true h k =
     (λ j. cond (is_before (cond (h j) e m) a) (cond (h j) e m) a)
-    ∙ (λ j. cond (before_chain e m a h k j) e a)
+    ∙ (λ j. cond (is_before_chain e m a h k j) e a)
     ∙ sym ((λ j. cond (is_before e (cond (k j) m a)) e (cond (k j) m a)) ∙ (λ j. cond (h j) e m))
 three a m e true false h k =
     (λ j. cond (is_before (cond (h j) e m) a) (cond (h j) e m) a)

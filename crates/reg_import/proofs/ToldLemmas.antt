@@ -1,8 +1,8 @@
 -- The action for a text, case by case.
-use Rattle.std.proofs.Common.{◌≡◌, ℕ, ◌+◌, ◌≤◌, nat_le, true, false, cond, List, length, Option, Some, None, refl, arith}
+use Rattle.std.proofs.Common.{◌≡◌, ℕ, ◌+◌, ◌≤◌, nat_le, true, false, cond, List, length, Option, Some, None, refl}
 use Rattle.std.specs.Prelude.{option_map}
 use Rattle.std.specs.Option.{unwrap_or}
-use Rattle.std.proofs.lemmas.Bool.Decides.{nat_tests}
+use Rattle.std.proofs.lemmas.Bool.{leb-true}
 use Rattle.reg_op.specs.Ids.{Id}
 use Rattle.reg_import.specs.declared.action.Differs.{Differs}
 use Rattle.reg_import.specs.declared.action.Differs.TheVariants as differs
@@ -12,9 +12,6 @@ use Rattle.reg_import.specs.declared.action.TextAction.TheVariants as told
 use Rattle.reg_import.specs.Known.{OfKey}
 use Rattle.reg_import.specs.Imports.{least, any_entry, has_text, has_text_and_is_valid, unless_spent, told_of_new, told_of}
 
-pub up_to : (a b : ℕ) → nat_le a b ≡ true → a ≤ b
-up_to a b h = grind (arith, nat_tests)
-
 module _ (P : TextAction → Type 0) where
   or_else : (f : Id → TextAction) (o : Option Id) (t : TextAction) → ((i : Id) → P (f i)) → P t → P (unwrap_or (option_map f o) t)
   or_else f None t h k = k
@@ -22,7 +19,7 @@ module _ (P : TextAction → Type 0) where
 
   has_unless : (last : ℕ) (t : TextAction) → P told.Spent → (last ≤ 4294967295 → P t) → P (unless_spent last t)
   has_unless last t s h = elim (nat_le last 4294967295) as (λ b. nat_le last 4294967295 ≡ b → P (cond b t told.Spent)) [
-    | true ↦ λ e. h (up_to last 4294967295 e)
+    | true ↦ λ e. h (leb-true last 4294967295 e)
     | false ↦ λ e. s
   ] refl
 

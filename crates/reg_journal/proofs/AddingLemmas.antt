@@ -1,7 +1,7 @@
 -- What an office file has after a command.
-use Rattle.std.proofs.Common.{◌≡◌, ◌⊎◌, ℕ, ◌+◌, ◌-◌, ◌<◌, ◌≤◌, ◌^◌, max, Bool, true, false, ◌&&◌, List, Option, Some, None, Result, Ok, Err, refl, sym, ap, ◌∙◌, subst, inl, inr, arith, nat_lt}
-use Rattle.std.proofs.lemmas.Bool.Decides.{nat_tests}
-use Rattle.std.proofs.lemmas.Bool.{or_cases, or_left, or_right, and_parts}
+use Rattle.std.proofs.Common.{◌≡◌, ◌⊎◌, ℕ, ◌+◌, ◌-◌, ◌<◌, ◌≤◌, ◌^◌, max, Bool, true, ◌&&◌, List, Option, Some, None, Result, Ok, Err, sym, ap, ◌∙◌, subst, inl, inr, arith}
+use Rattle.std.proofs.lemmas.Bool.{or_cases, or_left, or_right, and_parts, ltb-true}
+use Rattle.std.proofs.Math.Bool.{and_comm}
 use Rattle.std.specs.Cmp.{both_ways}
 use Rattle.std.specs.List.{filter}
 use Rattle.reg_op.specs.Set as set
@@ -22,23 +22,14 @@ use Rattle.reg_state.proofs.MergeLemmas.{ById-filter, has-filter}
 use Rattle.reg_office.specs.Making.{greatest}
 use Rattle.reg_office.proofs.NumberLemmas.{count-greatest}
 use Rattle.reg_journal.specs.Journal.{Journal, numbers, IsOffice}
-use Rattle.reg_journal.specs.Adding.{is_new, new_ops, new_in, added}
+use Rattle.reg_journal.specs.Adding.{is_new, new_ops, new_in}
 use Rattle.reg_journal.proofs.NumbersLemmas.{IsNumber, ids_are_run, run_in, in_run_of, numbers_in, in_numbers, of_own, made_number}
-
-lt_of : (m n : ℕ) → nat_lt m n ≡ true → m < n
-lt_of m n h = grind (arith, nat_tests)
-
-and_turn : (a b : Bool) → (a && b) ≡ (b && a)
-and_turn true true = refl
-and_turn true false = refl
-and_turn false true = refl
-and_turn false false = refl
 
 set_of_filter : (t : Op → Bool) (os : List Op) → set.from_list {R = op_cmp} (filter t os) ≡ set.retain (set.from_list os) t
 set_of_filter t os = same_set op_total op_exact _ _ (λ q.
     contains-from_list op_total (filter t os) q
     ∙ has-filter t os q
-    ∙ and_turn (t q) (has os q)
+    ∙ and_comm (t q) (has os q)
     ∙ (λ k. sym (contains-from_list op_total os q) k && t q)
     ∙ sym (contains-retain (set.from_list os) t q (λ x e. ap t (sym (op_exact q x e)))))
 
@@ -62,7 +53,7 @@ new_number : (f : Journal) (y : Content) (o : Op) → IsContent y → contains y
 new_number f y o is h new =
     let p = and_parts _ _ new in
     let own = of_own f.replica o.id p.0 in
-    let over = lt_of f.last o.id.count p.1 in
+    let over = ltb-true f.last o.id.count p.1 in
     record { own = own; low = omega (arith, over); high = count-greatest f.replica y.seen o.id (is.are_seen o h) own }
 
 pub no_numbers : (f : Journal) (g : ℕ) (s : Ids) → g ≤ f.last → s ≡ set.empty → s ≡ new_numbers f g
@@ -75,9 +66,6 @@ some_numbers f g v w e h =
 
 -- what is new in a register is a content
 module _ (f : Journal) (y : Content) (is : IsContent y) where
-  pub new_parts : (o : Op) → contains (new_in f y).ops o ≡ true → (contains y.ops o ≡ true) × (is_new f o.id ≡ true)
-  new_parts o h = and_parts _ _ (sym (contains-new f y o) ∙ h)
-
   pub new_seen : (o : Op) → contains y.ops o ≡ true → is_new f o.id ≡ true → contains (new_in f y).seen o.id ≡ true
   new_seen o h new = above_numbered f (greatest f.replica y.seen) o.id (new_number f y o is h new)
 
@@ -124,7 +112,7 @@ module _ (f : Journal) (y z : Content) (office : IsOffice f) (content : IsConten
   apart p o h k same =
       let n = made_number f p office h in
       let q = and_parts _ _ (and_parts _ _ (sym (contains-new f y o) ∙ subst (λ (x : Content). contains x.ops o ≡ true) e k)).1 in
-      let over = lt_of f.last o.id.count q.1 in
+      let over = ltb-true f.last o.id.count q.1 in
       let same_count : p.id.count ≡ o.id.count = ap (λ (i : Id). i.count) same in
       let high = n.high in
       omega (arith, over, same_count, high)
@@ -199,16 +187,6 @@ module _ (f : Journal) (y z : Content) (office : IsOffice f) (content : IsConten
         content = subst IsContent is (merged_is_content f.made z office.content new new_agree);
         seen = sym (ap (λ (x : Content). x.seen) is) ∙ all_numbers g eg ∙ ap (numbers f.replica) (sym el);
       }
-    where
-      same_ok : {a b : Content} → ◌≡◌ {A = Result Content Id} (Ok a) (Ok b) → a ≡ b
-      same_ok h = cc
-
-  pub new_journal : (g last : ℕ) (made : Content) → g ≡ greatest f.replica y.seen → last ≡ max f.last g → joined f.made z ≡ Ok made
-      → ◌≡◌ {A = Journal} (record { replica = f.replica; last = last; stood = f.stood; made = made }) (added f y)
-  new_journal g last made eg el j =
-      let is : made ≡ merged f.made (new_in f y) = sym (same_ok (sym new_joins ∙ j)) ∙ ap (merged f.made) e in
-      let number : last ≡ max f.last (greatest f.replica y.seen) = el ∙ ap (max f.last) eg in
-      λ k. record { replica = f.replica; last = number k; stood = f.stood; made = is k }
     where
       same_ok : {a b : Content} → ◌≡◌ {A = Result Content Id} (Ok a) (Ok b) → a ≡ b
       same_ok h = cc

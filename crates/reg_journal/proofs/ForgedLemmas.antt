@@ -1,20 +1,20 @@
 -- Ids that somebody else gave in an office's name.
 use Rattle.std.proofs.Common.{◌≡◌, ◌⊎◌, ℕ, ◌+◌, ◌<◌, ◌≤◌, max, Bool, true, false, not, ◌&&◌, ◌||◌, List, [], ◌∷◌, length, get_or, IfSome, IfNone, IsSome, Option, Some, None, refl, sym, ap, ◌∙◌, subst, inl, inr, arith, nat_lt}
-use Rattle.std.proofs.lemmas.Bool.Decides.{nat_tests}
-use Rattle.std.proofs.lemmas.Bool.{true≢false, or_cases, or_left, or_right, and_from, and_parts, false_from_ne_true}
+use Rattle.std.proofs.lemmas.Bool.{true≢false, or_cases, or_left, or_right, and_from, and_parts, false_from_ne_true, ltb-true, lt-ltb}
 use Rattle.std.specs.List.{list_any}
 use Rattle.std.specs.Cmp.{both_ways, tied_itself, Equal-is}
 use Rattle.std.specs.Ordering.{is_eq, eq_by_cmp}
 use Rattle.std.proofs.lemmas.List.Folds.{list_any_at}
+use Rattle.std.proofs.Math.Bool.{and-or_distrib_left}
 use Rattle.reg_op.specs.Set as set
 use Rattle.reg_op.specs.Set.{contains, contains-items}
 use Rattle.reg_op.specs.Ids.{Id, is_before, is_same}
 use Rattle.reg_op.specs.Operations.{Op, Ops, op_cmp, named_in, replaces}
-use Rattle.reg_op.specs.Lists.{has, AllAfter, ById}
+use Rattle.reg_op.specs.Lists.{has, ById}
 use Rattle.reg_op.specs.declared.operation.OpBody.{OpBody as Body}
 use Rattle.reg_op.specs.declared.operation.OpBody.TheVariants.{Supersede, Retire}
 use Rattle.reg_op.specs.Contents.{Content}
-use Rattle.reg_op.proofs.OpLemmas.{op_total, op_exact, is_same_exact, id_total, not_before_itself}
+use Rattle.reg_op.proofs.OpLemmas.{op_total, op_exact, is_same_exact, not_before_itself}
 use Rattle.reg_state.specs.declared.run.Run.{Run}
 use Rattle.reg_state.specs.Runs.{IsBelow, IsBeyond, replica_cmp, id_at, first_of, is_in_run, is_in_runs, AreRuns, seen_of}
 use Rattle.reg_state.proofs.RunLemmas.{contains-seen_of, same_replica, replica_itself, not_below_same}
@@ -25,6 +25,8 @@ use Rattle.reg_journal.specs.Journal.{Journal, is_own}
 use Rattle.reg_journal.specs.Standing.{Leasts, is_known, is_forged, tells_forged}
 use Rattle.reg_journal.specs.Adding.{is_new}
 use Rattle.reg_journal.proofs.LeastLemmas.{leasts_same}
+use Rattle.reg_file.proofs.BodyLemmas.{same_itself}
+use Rattle.reg_report.proofs.EntryLemmas.{is_after_first}
 
 -- ---- tests of several parts
 
@@ -45,16 +47,9 @@ one_inside true false c = refl
 one_inside true true true = refl
 one_inside true true false = refl
 
-pub nothing_there : (a : Bool) → (a && false) ≡ false
-nothing_there false = refl
-nothing_there true = refl
-
 or_assoc : (a b c : Bool) → (a || (b || c)) ≡ ((a || b) || c)
 or_assoc true b c = refl
 or_assoc false b c = refl
-
-same_itself : (i : Id) → is_same i i ≡ true
-same_itself i = ap is_eq (tied_itself id_total i)
 
 -- ---- an id that an effect names
 
@@ -107,13 +102,6 @@ told_two f o b s e h = leasts_same (λ i. names_any f b i || misuses f o i) (λ 
 
 -- ---- operations by id
 
-after_has : (i : Id) (os : List Op) (o : Op) → AllAfter i os → has os o ≡ true → is_before i o.id ≡ true
-after_has i [] o h k = absurd (true≢false (sym k))
-after_has i (p ∷ os) o h k = elim (op_cases o p os k) [
-  | inl e ↦ subst (λ (q : Op). is_before i q.id ≡ true) (sym e) h.0
-  | inr e ↦ after_has i os o h.1 e
-]
-
 -- no two operations of a list by id have one id
 pub one_by_id : (os : List Op) (p o : Op) → ById os → has os p ≡ true → has os o ≡ true → p.id ≡ o.id → p ≡ o
 one_by_id [] p o up h k same = absurd (true≢false (sym h))
@@ -121,10 +109,10 @@ one_by_id (x ∷ os) p o up h k same =
     elim (op_cases p x os h) [
       | inl a ↦ elim (op_cases o x os k) [
         | inl b ↦ a ∙ sym b
-        | inr b ↦ absurd (not_before_itself o.id (subst (λ i. is_before i o.id ≡ true) (ap (λ (q : Op). q.id) (sym a) ∙ same) (after_has x.id os o up.0 b)))
+        | inr b ↦ absurd (not_before_itself o.id (subst (λ i. is_before i o.id ≡ true) (ap (λ (q : Op). q.id) (sym a) ∙ same) (is_after_first x.id os o up.0 b)))
       ]
       | inr a ↦ elim (op_cases o x os k) [
-        | inl b ↦ absurd (not_before_itself p.id (subst (λ i. is_before i p.id ≡ true) (ap (λ (q : Op). q.id) (sym b) ∙ sym same) (after_has x.id os p up.0 a)))
+        | inl b ↦ absurd (not_before_itself p.id (subst (λ i. is_before i p.id ≡ true) (ap (λ (q : Op). q.id) (sym b) ∙ sym same) (is_after_first x.id os p up.0 a)))
         | inr b ↦ one_by_id os p o up.1 a b same
       ]
     ]
@@ -172,12 +160,6 @@ none_op r a b e h = elim r as (λ q. IfNone q (a ≡ false) → IfNone q (b ≡ 
 abbrev pub is_above : List ℕ → ℕ → List Run → Id → Bool
 is_above r last rs i = is_own r i && (nat_lt last i.count && is_in_runs i rs)
 
-pub lt_of : (m n : ℕ) → nat_lt m n ≡ true → m < n
-lt_of m n h = grind (arith, nat_tests)
-
-of_lt : (m n : ℕ) → m < n → nat_lt m n ≡ true
-of_lt m n h = grind (arith, nat_tests)
-
 -- a run without such a number is left out
 pub above_rest : (r : List ℕ) (last : ℕ) (run : Run) (runs rest : List Run) → runs ≡ run ∷ rest → (is_own r (first_of run) && nat_lt last run.high) ≡ false
     → (i : Id) → is_above r last runs i ≡ is_above r last rest i
@@ -190,7 +172,7 @@ above_rest r last run runs rest e none i =
     and_from _ _ p.0 (and_from _ _ q.0 (elim (or_cases (is_in_run i run) (is_in_runs i rest) q.1) [
       | inl a ↦
           let w = within i run a in
-          let over : nat_lt last run.high ≡ true = of_lt last run.high (let l = lt_of last i.count q.0 in omega (arith, l, w.high)) in
+          let over : nat_lt last run.high ≡ true = lt-ltb last run.high (let l = ltb-true last i.count q.0 in omega (arith, l, w.high)) in
           let own : is_own r (first_of run) ≡ true = subst (λ s. is_eq (replica_cmp s r) ≡ true) w.replica p.0 in
           absurd (true≢false (sym (and_from _ _ own over) ∙ none))
       | inr b ↦ b
@@ -204,7 +186,7 @@ above_rest r last run runs rest e none i =
 pub above_first : (r : List ℕ) (last n : ℕ) (run : Run) (runs rest : List Run) → runs ≡ run ∷ rest → AreRuns runs → (is_own r (first_of run) && nat_lt last run.high) ≡ true → n ≡ max run.low (last + 1)
     → Leasts (is_above r last runs) (Some (id_at r n))
 above_first r last n run runs rest e are here is = leasts_same (is_above r last (run ∷ rest)) (is_above r last runs) (λ i k. is_above r last (sym e k) i) (Some (id_at r n)) (record {
-  passes = and_from _ _ (replica_itself r) (and_from _ _ (of_lt last n (omega (arith, is))) (or_left (is_in_run (id_at r n) run) (is_in_runs (id_at r n) rest) inside));
+  passes = and_from _ _ (replica_itself r) (and_from _ _ (lt-ltb last n (omega (arith, is))) (or_left (is_in_run (id_at r n) run) (is_in_runs (id_at r n) rest) inside));
   least = λ i h. false_from_ne_true _ (λ b. sooner i h (past_of (id_at r n) (record { replica = i.replica; low = 0; high = i.count }) b));
 })
   where
@@ -225,13 +207,13 @@ above_first r last n run runs rest e are here is = leasts_same (is_above r last 
         first_of_runs a (b ∷ more) h = h.0
 
     inside : is_in_run (id_at r n) run ≡ true
-    inside = let l = lt_of last run.high parts.1 in let lh = low_high in in_run (id_at r n) run (record { replica = sym own; low = omega (arith, is); high = omega (arith, is, l, lh) })
+    inside = let l = ltb-true last run.high parts.1 in let lh = low_high in in_run (id_at r n) run (record { replica = sym own; low = omega (arith, is); high = omega (arith, is, l, lh) })
 
     sooner : (i : Id) → is_above r last (run ∷ rest) i ≡ true → IsBelow i.replica r ⊎ ((i.replica ≡ r) × (i.count < n)) → ⊥
     sooner i h (inl a) = not_below_same i.replica r (same_replica i.replica r (and_parts _ _ h).0) a
     sooner i h (inr a) =
         let q = and_parts _ _ (and_parts _ _ h).1 in
-        let over = lt_of last i.count q.0 in
+        let over = ltb-true last i.count q.0 in
         elim (or_cases (is_in_run i run) (is_in_runs i rest) q.1) [
           | inl b ↦ let w = within i run b in omega (arith, is, over, w.low, a.1)
           | inr b ↦ later i a (far_from run rest i first b)
@@ -239,16 +221,12 @@ above_first r last n run runs rest e are here is = leasts_same (is_above r last 
       where
         later : (i : Id) → (i.replica ≡ r) × (i.count < n) → IsBeyond run i → ⊥
         later i a (inl b) = not_below_same run.replica i.replica (own ∙ sym a.0) b
-        later i a (inr b) = let l = lt_of last run.high parts.1 in let lh = low_high in omega (arith, is, l, lh, a.1, b.1)
+        later i a (inr b) = let l = ltb-true last run.high parts.1 in let lh = low_high in omega (arith, is, l, lh, a.1, b.1)
 
 -- ---- all operations
 
 abbrev pub is_told : Journal → List Op → Id → Bool
 is_told f os i = is_own f.replica i && list_any (tells_forged f i) os
-
-told_first : (a b c : Bool) → (a && (b || c)) ≡ ((a && b) || (a && c))
-told_first true b c = refl
-told_first false b c = refl
 
 -- of which some operations tell, and the rest does
 pub told_more : (f : Journal) (ops rest more : List Op) (o : Op) (t : Id → Bool) → rest ≡ o ∷ more → ((i : Id) → is_told f ops i ≡ (t i || is_told f rest i))
@@ -256,7 +234,7 @@ pub told_more : (f : Journal) (ops rest more : List Op) (o : Op) (t : Id → Boo
 told_more f ops rest more o t e so_far i =
     so_far i
     ∙ (λ k. t i || is_told f (e k) i)
-    ∙ ap (λ b. t i || b) (told_first (is_own f.replica i) (tells_forged f i o) (list_any (tells_forged f i) more))
+    ∙ ap (λ b. t i || b) (and-or_distrib_left (is_own f.replica i) (tells_forged f i o) (list_any (tells_forged f i) more))
     ∙ or_assoc (t i) (is_own f.replica i && tells_forged f i o) (is_told f more i)
 
 -- ---- a whole register

@@ -1,7 +1,6 @@
 -- In a world of offices nobody makes numbers in another's name.
-use Rattle.std.proofs.Common.{◌≡◌, ℕ, ◌<◌, ◌≤◌, true, false, not, ◌&&◌, sym, ap, ◌∙◌, subst, inl, inr, arith, nat_lt}
-use Rattle.std.proofs.lemmas.Bool.Decides.{nat_tests}
-use Rattle.std.proofs.lemmas.Bool.{true≢false, or_cases, or_left, or_right, and_from, and_parts, cases_Bool, false_from_ne_true}
+use Rattle.std.proofs.Common.{◌≡◌, ◌≤◌, true, false, not, ◌&&◌, sym, ap, ◌∙◌, subst, inl, inr, arith, nat_lt}
+use Rattle.std.proofs.lemmas.Bool.{true≢false, or_cases, or_left, or_right, and_from, and_parts, cases_Bool, false_from_ne_true, ltb-true}
 use Rattle.std.specs.List.{list_any}
 use Rattle.reg_op.specs.Set.{contains}
 use Rattle.reg_op.specs.Ids.{Id, is_same}
@@ -17,9 +16,6 @@ use Rattle.reg_journal.specs.Standing.{is_known, tells_forged, IsHonest}
 use Rattle.reg_journal.specs.Journals.{Copy, World}
 use Rattle.reg_journal.proofs.NumbersLemmas.{numbers_in, of_own}
 use Rattle.reg_journal.proofs.JournalLemmas.{IsCopy, Invariant}
-
-lt_of : (m n : ℕ) → nat_lt m n ≡ true → m < n
-lt_of m n h = grind (arith, nat_tests)
 
 -- the operation of an id of a set
 op_of_id : (s : Ops) (i : Id) → contains (ids s) i ≡ true → (o : Op) × (contains s o ≡ true) × (o.id ≡ i)
@@ -72,7 +68,7 @@ module _ (w : World) (inv : Invariant w) (c : Copy) (f : Journal) (is : IsCopy i
       subst (λ j. contains (ids inv.all) j ≡ true) r.2 (ids_has inv.all r.0 (is.within r.0 r.1))
 
   over : (i : Id) → is_own f.replica i ≡ true → nat_lt f.last i.count ≡ true → contains (ids inv.all) i ≡ true → ⊥
-  over i own lt h = let top = given i own h in let low = lt_of f.last i.count lt in omega (arith, top, low)
+  over i own lt h = let top = given i own h in let low = ltb-true f.last i.count lt in omega (arith, top, low)
 
   pub nobody_forges : IsHonest f c.content
   nobody_forges i = false_from_ne_true _ (λ h.

@@ -6,17 +6,13 @@ use Rattle.reg_op.specs.Ids.{Id, is_same}
 use Rattle.reg_op.specs.Finite.{any}
 use Rattle.reg_op.specs.Operations.{Op, OneBody}
 use Rattle.reg_op.specs.Contents.{Content, IsContent, joined, merged}
-use Rattle.reg_op.proofs.OpLemmas.{op_total, op_exact, id_total}
+use Rattle.reg_op.proofs.OpLemmas.{op_total, op_exact}
 use Rattle.reg_op.proofs.FiniteLemmas.{any_from_member}
 use Rattle.reg_op.proofs.ContentLemmas.{contains_op-union, joined_content}
-use Rattle.std.specs.Cmp.{tied_itself}
-use Rattle.std.specs.Ordering.{is_eq}
 use Rattle.reg_journal.specs.Journal.{Journal, IsOffice, is_own}
 use Rattle.reg_journal.specs.Standing.{is_known, tells_forged, IsHonest}
 use Rattle.reg_journal.proofs.NumbersLemmas.{made_number, own_of}
-
-same_itself : (i : Id) → is_same i i ≡ true
-same_itself i = ap is_eq (tied_itself id_total i)
+use Rattle.reg_file.proofs.BodyLemmas.{same_itself}
 
 -- an own operation of such a register is known to the office file
 pub honest_known : (f : Journal) (x : Content) (p : Op) → IsHonest f x → contains x.ops p ≡ true → is_own f.replica p.id ≡ true → is_known f.made.ops p ≡ true

@@ -64,8 +64,8 @@ pub same_ok : (r : Result Content Id) (x y : Content) → r ≡ Ok x → r ≡ O
 same_ok (Ok z) x y h k = let a : z ≡ x = cc in let b : z ≡ y = cc in sym b ∙ a
 same_ok (Err id) x y h k = cc
 
-here : (files : List ℕ → Copy) (i : List ℕ) (d : Copy) → at_office files i d i ≡ d
-here files i d = ap (λ b. cond b d (files i)) (replica_itself i)
+pub own_file : (files : List ℕ → Copy) (i : List ℕ) (d : Copy) → at_office files i d i ≡ d
+own_file files i d = ap (λ b. cond b d (files i)) (replica_itself i)
 
 -- ---- a command of an office
 
@@ -154,7 +154,7 @@ module _ (w : World) (inv : Invariant w) (i note : List ℕ) (effects : List Bod
   own_new o h =
       let there : contains (union file.reached new) o ≡ true = union_right file.reached new o (set.contains-from_list op_total os o ∙ h) in
       subst (λ r. contains (at_office w.files i new_file r).reached o ≡ true) (sym (mine o h))
-      (subst (λ (d : Copy). contains d.reached o ≡ true) (sym (here w.files i new_file)) there)
+      (subst (λ (d : Copy). contains d.reached o ≡ true) (sym (own_file w.files i new_file)) there)
 
   named_new : (o : Op) (j : Id) → has os o ≡ true → list_any (is_same j) (named_in o.body) ≡ true → contains (ids (union inv.all new)) j ≡ true
   named_new o j h named =
@@ -190,7 +190,7 @@ module _ (w : World) (inv : Invariant w) (i note : List ℕ) (effects : List Bod
   makes_keeps lands = subst Invariant (sym (makes_is lands)) (left_keeps lands)
 
   pub noted_is : (lands : Bool) → ((left lands).files i).reached ≡ union file.reached new
-  noted_is lands = ap (λ (d : Copy). d.reached) (here w.files i new_file)
+  noted_is lands = ap (λ (d : Copy). d.reached) (own_file w.files i new_file)
 
   pub all_is_there : IsWithin (union file.reached new) new_copy.reached
   all_is_there = union_within file.reached new new_copy.reached (λ o h. union_left (both c file) new o (union_right c.reached file.reached o h)) (union_right (both c file) new)

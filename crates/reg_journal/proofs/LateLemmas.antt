@@ -1,7 +1,6 @@
 -- A command that did not arrive, run again.
 use Rattle.std.proofs.Common.{◌≡◌, ℕ, ◌+◌, ◌<◌, ◌≤◌, Bool, true, false, ◌&&◌, List, [], ◌∷◌, length, refl, sym, ap, ◌∙◌, subst, arith, nat_lt}
-use Rattle.std.proofs.lemmas.Bool.Decides.{nat_tests}
-use Rattle.std.proofs.lemmas.Bool.{true≢false, and_from, and_parts, false_from_ne_true}
+use Rattle.std.proofs.lemmas.Bool.{true≢false, and_from, and_parts, false_from_ne_true, lt-ltb}
 use Rattle.std.specs.List.{list_all, list_any}
 use Rattle.std.specs.Cmp.{both_ways, tied_itself}
 use Rattle.std.specs.Ordering.{is_eq}
@@ -21,9 +20,6 @@ use Rattle.reg_office.specs.Making.{greatest, numbered}
 use Rattle.reg_office.proofs.NumberLemmas.{count-greatest}
 use Rattle.reg_journal.specs.Again.{is_late, is_again}
 use Rattle.reg_journal.proofs.ForgedLemmas.{one_by_id, has_any}
-
-of_lt : (m n : ℕ) → m < n → nat_lt m n ≡ true
-of_lt m n h = grind (arith, nat_tests)
 
 late_there : (seen : Ids) (y : Content) (o : Op) → is_late seen y.ops o ≡ true → contains y.ops o ≡ true
 late_there seen y o h = (and_parts _ _ (and_parts _ _ h).1).0
@@ -68,7 +64,7 @@ module _ (seen : Ids) (y : Content) (r note : List ℕ) (is : IsContent y) where
   none_of_none (x ∷ es) e m = absurd (omega arith)
 
   pub again_at : (es : List Body) (m : ℕ) → 0 < length es → all_late m es ≡ is_again seen y.ops r note es m
-  again_at es m h = ap (λ b. b && all_late m es) (sym (of_lt 0 (length es) h))
+  again_at es m h = ap (λ b. b && all_late m es) (sym (lt-ltb 0 (length es) h))
 
 -- ---- an operation of a register
 

@@ -7,6 +7,7 @@ use Rattle.std.specs.declared.cmp.Ordering.{Ordering}
 use Rattle.std.specs.declared.cmp.Ordering.TheVariants.{Less, Equal, Greater}
 use Rattle.reg_op.specs.Ids.{Id, id_cmp, is_before}
 use Rattle.reg_op.proofs.OpLemmas.{id_total, not_before_itself}
+use Rattle.reg_op.proofs.ClashLemmas.{lt_id_itself}
 use Rattle.reg_journal.specs.Standing.{Leasts}
 
 lt_turned : (r : Ordering) → is_lt (ordering_reverse r) ≡ is_gt r
@@ -20,9 +21,6 @@ turned a b = ap is_lt (id_total.antisymm a b) ∙ lt_turned (id_cmp b a)
 -- if a is not before b, and b not before c, then a is not before c
 not_before_chain : (a b c : Id) → is_before a b ≡ false → is_before b c ≡ false → is_before a c ≡ false
 not_before_chain a b c h k = turned a c ∙ upto id_total c b a (sym (turned b c) ∙ k) (sym (turned a b) ∙ h)
-
-not_itself : (a : Id) → is_before a a ≡ false
-not_itself a = false_from_ne_true _ (not_before_itself a)
 
 -- a is before b, so b is not before a
 not_back : (a b : Id) → is_before a b ≡ true → is_before b a ≡ false
@@ -41,7 +39,7 @@ leasts_same t u same (Some id) h = record { passes = sym (same id) ∙ h.passes;
 
 -- the id is the only one that may pass, and it does, or does not
 pub only_one : (t : Id → Bool) (id : Id) → t id ≡ true → ((i : Id) → t i ≡ true → i ≡ id) → Leasts t (Some id)
-only_one t id h only = record { passes = h; least = λ i k. subst (λ j. is_before j id ≡ false) (sym (only i k)) (not_itself id) }
+only_one t id h only = record { passes = h; least = λ i k. subst (λ j. is_before j id ≡ false) (sym (only i k)) (lt_id_itself id) }
 
 pub not_one : (t : Id → Bool) (id : Id) → t id ≡ false → ((i : Id) → t i ≡ true → i ≡ id) → Leasts t None
 not_one t id h only = λ i. false_from_ne_true _ (λ k. true≢false (sym (subst (λ j. t j ≡ true) (only i k) k) ∙ h))

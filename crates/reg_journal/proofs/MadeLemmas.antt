@@ -1,7 +1,6 @@
 -- The operations that a command makes on a register joined with the office file, and what is new in the register that it leaves.
 use Rattle.std.proofs.Common.{◌≡◌, ◌⊎◌, ℕ, ◌+◌, ◌-◌, ◌<◌, ◌≤◌, max, Bool, true, false, not, cond, ◌&&◌, ◌||◌, List, [], ◌∷◌, map, length, Option, Some, None, Result, Ok, refl, sym, ap, ◌∙◌, subst, inl, inr, arith, nat_lt}
-use Rattle.std.proofs.lemmas.Bool.Decides.{nat_tests}
-use Rattle.std.proofs.lemmas.Bool.{true≢false, or_cases, or_left, or_right, and_from, and_parts}
+use Rattle.std.proofs.lemmas.Bool.{true≢false, or_cases, or_left, or_right, and_from, and_parts, lt-ltb, ltb-true}
 use Rattle.std.specs.Cmp.{both_ways, tied_itself}
 use Rattle.std.specs.Ordering.{is_eq, eq_by_cmp}
 use Rattle.std.specs.List.{list_any}
@@ -23,22 +22,17 @@ use Rattle.reg_op.proofs.StatusLemmas.{any-kept}
 use Rattle.reg_op.proofs.ClashLemmas.{items_are}
 use Rattle.reg_state.specs.Runs.{ids_from, id_at}
 use Rattle.reg_office.specs.declared.fault.OfficeFault.{OfficeFault}
-use Rattle.reg_office.specs.Making.{greatest, numbered, made, objection, objections, else_next, with_op, made_unless, note_fault, is_spent}
+use Rattle.reg_office.specs.Making.{greatest, numbered, made, objection, objections, else_next, with_op, note_fault, is_spent}
 use Rattle.reg_office.proofs.NumberLemmas.{op_cases, numbered_on, numbered_ids, numbered_by_id, greatest_is, count-greatest}
 use Rattle.reg_office.proofs.EffectLemmas.{nothing_against}
 use Rattle.reg_office.proofs.LawLemmas.{made_are, they_join}
+use Rattle.reg_office.proofs.NewLemmas.{not_refused}
 use Rattle.reg_journal.specs.Journal.{Journal, IsOffice, is_own}
 use Rattle.reg_journal.specs.Standing.{IsHonest}
 use Rattle.reg_journal.specs.Adding.{is_new, new_in, added}
 use Rattle.reg_journal.proofs.NumbersLemmas.{IsNumber, numbers_in, in_numbers, own_of, of_own}
 use Rattle.reg_journal.proofs.JoiningLemmas.{honest_agrees, honest_joins}
 use Rattle.reg_journal.proofs.AddingLemmas.{new_numbers, contains-new, numbered_above, above_numbered}
-
-of_lt : (m n : ℕ) → m < n → nat_lt m n ≡ true
-of_lt m n h = grind (arith, nat_tests)
-
-lt_of : (m n : ℕ) → nat_lt m n ≡ true → m < n
-lt_of m n h = grind (arith, nat_tests)
 
 -- ---- an effect that is not refused is not redundant
 
@@ -107,14 +101,10 @@ none_redundant x (q ∷ os) o none h r =
           none_redundant (with_op x q) os o parts.1 e stays
     ]
 
-none_of_ok : (f : Option OfficeFault) (spent : Bool) (os ps : List Op) → made_unless f spent os ≡ Ok ps → f ≡ None
-none_of_ok None spent os ps h = refl
-none_of_ok (Some f) spent os ps h = cc
-
 pub made_allowed : (x : Content) (r note : List ℕ) (bs : List Body) (os : List Op) → made x r note bs ≡ Ok os → objections x os ≡ None
 made_allowed x r note bs os e =
     let news : List Op = numbered r (greatest r x.seen + 1) note bs in
-    let none = none_of_ok (else_next (note_fault note) (objections x news)) (is_spent (greatest r x.seen) (length bs)) news os e in
+    let none = not_refused (else_next (note_fault note) (objections x news)) (is_spent (greatest r x.seen) (length bs)) news os e in
     subst (λ l. objections x l ≡ None) (sym (made_are x r note bs os e)) (nothing_against (note_fault note) (objections x news) none).1
 
 -- ---- an effect that is not refused names entries
@@ -190,7 +180,7 @@ module _ (f : Journal) (x y : Content) (office : IsOffice f) (content : IsConten
   bounded : (i : Id) → contains x.seen i ≡ true → is_own f.replica i ≡ true → i.count ≤ f.last
   bounded i h own = elim (below i.count f.last) [
     | inl a ↦ a
-    | inr b ↦ absurd (true≢false (sym (and_from (is_own f.replica i) _ own (or_left (nat_lt f.last i.count && contains x.seen i) _ (and_from _ _ (of_lt f.last i.count b) h))) ∙ honest i))
+    | inr b ↦ absurd (true≢false (sym (and_from (is_own f.replica i) _ own (or_left (nat_lt f.last i.count && contains x.seen i) _ (and_from _ _ (lt-ltb f.last i.count b) h))) ∙ honest i))
   ]
     where
       below : (a b : ℕ) → (a ≤ b) ⊎ (b < a)
@@ -224,7 +214,7 @@ module _ (f : Journal) (x y : Content) (office : IsOffice f) (content : IsConten
     new_one o h =
         let on = numbered_on f.replica (f.last + 1) note bs o (subst (λ l. has l o ≡ true) os_are h) in
         let low = on.1 in
-        and_from _ _ (own_of f.replica o.id on.0) (of_lt f.last o.id.count (omega (arith, low)))
+        and_from _ _ (own_of f.replica o.id on.0) (lt-ltb f.last o.id.count (omega (arith, low)))
 
     in_all : (o : Op) → contains all o ≡ true → has os o ≡ true
     in_all o h = sym (contains-from_list op_total os o) ∙ h
@@ -232,7 +222,7 @@ module _ (f : Journal) (x y : Content) (office : IsOffice f) (content : IsConten
     old_none : (o : Op) → contains y.ops o ≡ true → is_new f o.id ≡ true → ⊥
     old_none o h new =
         let p = and_parts _ _ new in
-        let over = lt_of f.last o.id.count p.1 in
+        let over = ltb-true f.last o.id.count p.1 in
         let top = count-greatest f.replica y.seen o.id (y_content.are_seen o h) (of_own f.replica o.id p.0) in
         let is = next_number in
         omega (arith, over, top, is)

@@ -1,5 +1,5 @@
 -- Indexes of rows by key, and what words name among the rows of their key alone.
-use Rattle.std.proofs.Common.{◌≡◌, ◌≢◌, ◌⊎◌, ◌↔◌, ℕ, Bool, true, false, cond, List, [], ◌∷◌, ◌++◌, map, Option, Some, None, refl, sym, ap, ◌∙◌, subst, inl, inr}
+use Rattle.std.proofs.Common.{◌≡◌, ℕ, Bool, true, false, cond, List, [], ◌∷◌, ◌++◌, map, Option, Some, None, refl, sym, ap, ◌∙◌, subst, inl, inr}
 use Rattle.std.proofs.lemmas.Bool.{true≢false}
 use Rattle.std.proofs.lemmas.Cmp.{nat_list_cmp_total}
 use Rattle.std.proofs.lemmas.List.{map-append}
@@ -10,10 +10,10 @@ use Rattle.std.specs.Ordering.{nat_cmp, is_eq}
 use Rattle.std.specs.Global.{Vec}
 use Rattle.std.specs.BTreeMap.{BTreeMap, get}
 use Rattle.std.specs.Map.{lookup}
-use Rattle.crs_search.specs.Parts.{lower, IsAlike}
+use Rattle.crs_search.specs.Parts.{lower}
 use Rattle.std.specs.Char.{to_ascii_lowercase}
 use Rattle.reg_op.specs.Set.{Ascends}
-use Rattle.reg_op.specs.Ids.{Id, id_cmp, is_before}
+use Rattle.reg_op.specs.Ids.{Id}
 use Rattle.reg_op.specs.Rows.{Row}
 use Rattle.reg_op.proofs.OpLemmas.{bytes_exact}
 use Rattle.reg_report.specs.declared.row.Row.{Row as MadeRow}
@@ -24,13 +24,13 @@ use Rattle.reg_report.proofs.ContenderLemmas.{one_key}
 use Rattle.reg_report.specs.Rows.{row_cmp}
 use Rattle.reg_keys.specs.declared.fault.KeyFault.{KeyFault}
 use Rattle.reg_keys.specs.declared.fault.KeyFault.TheVariants.{NoEntry, Several, Memory}
-use Rattle.reg_keys.specs.Named.{HasWord, Answers, IsEntry, AreEntries, IsAnsweredBy, AllHave, IsLeast, StandsFor, IsOther, IsObjection}
+use Rattle.reg_keys.specs.Named.{HasWord, Answers, AreEntries, IsAnsweredBy, AllHave, IsLeast, StandsFor, IsObjection}
 use Rattle.reg_keys.specs.Every.{StandsForEvery}
 use Rattle.reg_keys.specs.Told.{TellsOf, IsUntold}
 use Rattle.reg_keys.specs.declared.index.Spelling.{Spelling}
 use Rattle.reg_keys.specs.declared.index.KeyIndex.{KeyIndex}
 use Rattle.reg_keys.specs.Index.{spelling, IsSpelled, AreChosen, spelling_cmp, rows_in, Holds, IsIndex, AreSpelled}
-use Rattle.reg_report.proofs.OrderLemmas.{Before, first_before, rest_ascends, put_before}
+use Rattle.reg_report.proofs.OrderLemmas.{first_before, rest_ascends, put_before}
 use Rattle.reg_report.proofs.RowLemmas.{row_total}
 
 -- ---- chosen rows
@@ -60,9 +60,6 @@ module _ (P : Row → Type 0) where
   chosen_ascend (x ∷ rs) some (inl (p, (rest, e, later))) up =
       subst (Ascends row_cmp) (sym e) (put_before row_total x rest (λ y h. first_before row_total x rs up y (within rs rest later y h)) (chosen_ascend rs rest later (rest_ascends row_total x rs up)))
   chosen_ascend (x ∷ rs) some (inr (not, later)) up = chosen_ascend rs some later (rest_ascends row_total x rs up)
-
-  pub none_chosen : (some : List Row) → some ≡ [] → AreChosen P [] some
-  none_chosen some e = e
 
   -- one row more, at the end
   pub one_more : (rs some : List Row) (r : Row) → P r → AreChosen P rs some → AreChosen P (rs ++ r ∷ []) (some ++ r ∷ [])

@@ -2,11 +2,10 @@
 use Rattle.std.specs.Prelude.{◌↔◌, option_map, Contains, nat_eq}
 use Rattle.std.specs.Cmp.Lexicographic.{pointwise}
 use Rattle.std.proofs.Common.{◌≡◌, ℕ, ◌+◌, Bool, true, false, not, ◌&&◌, ◌||◌, List, [], ◌∷◌, None, refl, sym, ap, ◌∙◌, subst, inl, inr}
-use Rattle.std.proofs.lemmas.Bool.{true≢false, and_parts, and_from, false_from_ne_true}
+use Rattle.std.proofs.lemmas.Bool.{true≢false, and_parts, and_from, false_from_ne_true, not-true}
+use Rattle.std.proofs.Math.Bool.{and-false}
 use Rattle.std.specs.Cmp.{tied_itself, IsTotalOrder, then_total, on_total}
 use Rattle.std.specs.Ordering.{is_eq, is_lt, ordering_then, eq_by_cmp}
-use Rattle.std.specs.declared.cmp.Ordering.{Ordering}
-use Rattle.std.specs.declared.cmp.Ordering.TheVariants.{Less, Equal, Greater}
 use Rattle.reg_op.specs.Set as set
 use Rattle.reg_op.specs.Set.{contains, contains-from_list, contains-items, IsAntisymmetric}
 use Rattle.reg_op.specs.Ids.{Id, id_cmp, is_same, is_before}
@@ -16,7 +15,7 @@ use Rattle.reg_op.specs.Operations.{Op, Ops, op_cmp, one, replaces, replaces_bod
 use Rattle.reg_op.specs.Contents.{Content}
 use Rattle.reg_op.specs.Kept.{first_dropped}
 use Rattle.reg_op.specs.Status.{enters, retires, is_replaced_by, is_enter, is_retirement, is_supersession}
-use Rattle.reg_op.proofs.OpLemmas.{id_total, id_exact, op_total, op_exact, is_same_exact, replaces_irreflexive}
+use Rattle.reg_op.proofs.OpLemmas.{id_total, id_exact, op_total, op_exact, is_same_exact, replaces_irreflexive, both_equal}
 use Rattle.reg_op.proofs.SetLemmas.{AllAbove, Climbs, items_climb}
 use Rattle.reg_op.proofs.FiniteLemmas.{any-union, member_from_any}
 use Rattle.reg_op.proofs.ContentLemmas.{kept-union_right}
@@ -38,11 +37,6 @@ use Rattle.reg_links.proofs.Inheriting.{heir_stands}
 
 pub link_total : IsTotalOrder link_cmp
 link_total = then_total (on_total (λ (l : Link). l.old) id_total) (on_total (λ (l : Link). l.newer) id_total)
-
-both_equal : (r t : Ordering) → ordering_then r t ≡ Equal → (r ≡ Equal) × (t ≡ Equal)
-both_equal Less t e = cc
-both_equal Equal t e = (refl, e)
-both_equal Greater t e = cc
 
 pub link_exact : IsAntisymmetric link_cmp
 link_exact a b e =
@@ -74,10 +68,6 @@ none_more : (a : Bool) → (a || (false || false)) ≡ a
 none_more true = refl
 none_more false = refl
 
-and_end : (a : Bool) → (a && false) ≡ false
-and_end true = refl
-and_end false = refl
-
 module _ (y : Content) (o : Op) (l : Link) (is : o.body ≡ body_of l) where
   abbrev two : Ops
   two = set.union y.ops (one o)
@@ -85,7 +75,7 @@ module _ (y : Content) (o : Op) (l : Link) (is : o.body ≡ body_of l) where
   still_entered : (e : Id) → enters (with_op y o).ops e ≡ enters y.ops e
   still_entered e =
       ap (λ s. enters s e) (kept-union_right y.ops (one o)) ∙ enters-kept two e ∙ any-with (λ p. is_same e p.id && is_enter p.body) y.ops o
-      ∙ ap (λ b. enters y.ops e || ((is_same e o.id && is_enter b) || false)) is ∙ ap (λ b. enters y.ops e || (b || false)) (and_end (is_same e o.id)) ∙ none_more (enters y.ops e)
+      ∙ ap (λ b. enters y.ops e || ((is_same e o.id && is_enter b) || false)) is ∙ ap (λ b. enters y.ops e || (b || false)) (and-false (is_same e o.id)) ∙ none_more (enters y.ops e)
 
   off_two : (e : Id) → retires two e ≡ retires y.ops e
   off_two e = any-with (λ p. is_retirement e p.body) y.ops o ∙ ap (λ b. retires y.ops e || (is_retirement e b || false)) is ∙ none_more (retires y.ops e)
@@ -182,12 +172,8 @@ drops_none os free =
 
 -- ---- the links of heirs
 
-stands_parts : (s : Ops) (i : Id) → stands s i ≡ true → (enters s i ≡ true) × (retires s i ≡ false)
-stands_parts s i h = let p = and_parts (enters s i) (not (retires s i)) h in (p.0, not_true (retires s i) p.1)
-  where
-    not_true : (b : Bool) → not b ≡ true → b ≡ false
-    not_true true h = absurd (true≢false (sym h))
-    not_true false h = refl
+pub stands_parts : (s : Ops) (i : Id) → stands s i ≡ true → (enters s i ≡ true) × (retires s i ≡ false)
+stands_parts s i h = let p = and_parts (enters s i) (not (retires s i)) h in (p.0, not-true (retires s i) p.1)
 
 open_chain : (old newer : Id) (a b same r q t : Bool) → a ≡ true → b ≡ true → r ≡ false → q ≡ false → (not same && not t) ≡ true → chain old newer a b same r q (not r && t) ≡ None
 open_chain old newer true true false false false false ea eb er eq n = refl

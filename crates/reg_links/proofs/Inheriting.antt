@@ -119,9 +119,6 @@ pub no_links : (s : Ops) (l : Link) → PassesTo [] s l → ⊥
 no_links s l p = none_in p.link p.there
 
 module _ (s : Ops) (x : Link) where
-  pub not_cut : is_cut s x ≡ false → (l : Link) → PassesTo (x ∷ []) s l → ⊥
-  not_cut e l p = true≢false (sym (subst (λ m. is_cut s m ≡ true) (in_one x p.link p.there) p.cut) ∙ e)
-
   pub no_heir : ((h : Link) → Inherits s x h → ⊥) → (l : Link) → PassesTo (x ∷ []) s l → ⊥
   no_heir none l p = none l (subst (λ m. Inherits s m l) (in_one x p.link p.there) p.inherits)
 

@@ -3,9 +3,10 @@ use Rattle.std.specs.Prelude.{◌↔◌, Contains, Some}
 use Rattle.std.proofs.Common.{◌≡◌, ◌≢◌, ◌⊎◌, ℕ, Bool, true, false, not, ◌&&◌, ◌||◌, cond, List, [], ◌∷◌, map, refl, sym, ap, ◌∙◌, subst, inl, inr}
 use Rattle.std.proofs.lemmas.Bool.{true≢false, and_parts, and_from, or_cases, or_left, or_right}
 use Rattle.std.proofs.lemmas.List.Elements.{Contains-append_cases, Contains-append_left, Contains-append_right}
+use Rattle.std.proofs.Math.Bool.{or-false, and-false}
 use Rattle.std.specs.List.{list_any, flat_map}
-use Rattle.std.specs.Cmp.{tied_itself, Equal-is}
-use Rattle.std.specs.Ordering.{is_eq, eq_by_cmp}
+use Rattle.std.specs.Cmp.{Equal-is}
+use Rattle.std.specs.Ordering.{eq_by_cmp}
 use Rattle.reg_op.specs.Set as set
 use Rattle.reg_op.specs.Set.{contains, union, contains-items}
 use Rattle.reg_op.specs.Ids.{Id, is_same}
@@ -16,7 +17,7 @@ use Rattle.reg_op.specs.declared.operation.OpBody.TheVariants.{Enter, Supersede,
 use Rattle.reg_op.specs.Contents.{Content, state}
 use Rattle.reg_op.specs.Status.{enters, retires, supersedes, status, is_enter, is_retirement, is_supersession}
 use Rattle.reg_op.specs.declared.status.Status.TheVariants.{Superseded}
-use Rattle.reg_op.proofs.OpLemmas.{id_total, op_total, op_exact, is_same_exact}
+use Rattle.reg_op.proofs.OpLemmas.{op_total, op_exact, is_same_exact}
 use Rattle.reg_op.proofs.FiniteLemmas.{any-union}
 use Rattle.reg_op.proofs.ContentLemmas.{kept-union_right}
 use Rattle.reg_op.proofs.OneLemmas.{any-from_list}
@@ -25,26 +26,16 @@ use Rattle.reg_op.proofs.JoinLemmas.{joined_ok}
 use Rattle.reg_report.proofs.ConflictLemmas.{none_in, in_cons, in_head, in_tail, member_of_any}
 use Rattle.reg_office.specs.Commands.{Does}
 use Rattle.reg_office.proofs.LawLemmas.{bodies_are}
+use Rattle.reg_office.proofs.BodyLemmas.{same_itself}
 use Rattle.reg_links.specs.declared.link.Link.{Link}
 use Rattle.reg_links.specs.Links.{stands, supersedes_by, is_linked, link_in, links_in, link_cmp}
 use Rattle.reg_links.specs.Heirs.{IsHeir}
 use Rattle.reg_links.specs.Passing.{is_new, body_of, bodies_of, PassesOn}
 use Rattle.reg_links.specs.Law.{SupersedesNone, IsHeirOfBoth, WasAwaited}
 use Rattle.reg_links.proofs.Inheriting.{heir_stands, its_own}
-use Rattle.reg_links.proofs.Allowed.{link_exact, in_set}
+use Rattle.reg_links.proofs.Allowed.{link_exact, in_set, stands_parts}
 
 -- ---- Booleans
-
-or_end : (a : Bool) → (a || false) ≡ a
-or_end true = refl
-or_end false = refl
-
-and_end : (a : Bool) → (a && false) ≡ false
-and_end true = refl
-and_end false = refl
-
-same_itself : (i : Id) → is_same i i ≡ true
-same_itself i = ap is_eq (tied_itself id_total i)
 
 -- ---- the links of a content
 
@@ -174,7 +165,7 @@ none_enter [] (o ∷ os) i e = cc
 none_enter (l ∷ ls) (o ∷ os) i e =
     let head : o.body ≡ body_of l = cc in
     let tail : map (λ (p : Op). p.body) os ≡ bodies_of ls = cc in
-    (λ k. (is_same i o.id && is_enter (head k)) || none_enter ls os i tail k) ∙ ap (λ b. b || false) (and_end (is_same i o.id))
+    (λ k. (is_same i o.id && is_enter (head k)) || none_enter ls os i tail k) ∙ ap (λ b. b || false) (and-false (is_same i o.id))
 
 one_supersedes : (ls : List Link) (a b : Id) → some_supersede (bodies_of ls) a b ≡ true → Contains ls (record { old = a; newer = b })
 one_supersedes [] a b h = absurd (true≢false (sym h))
@@ -204,32 +195,25 @@ from_set all links e l h =
 
 -- ---- the law
 
-standing_none : (s : Ops) (i : Id) → stands s i ≡ true → (enters s i ≡ true) × (retires s i ≡ false)
-standing_none s i h = let p = and_parts (enters s i) (not (retires s i)) h in (p.0, by (retires s i) p.1)
-  where
-    by : (b : Bool) → not b ≡ true → b ≡ false
-    by true k = absurd (true≢false (sym k))
-    by false k = refl
-
 module _ (x m y : Content) (replica note noted : List ℕ) (bodies : List Body) (made ids : List Id) (links : List Link)
     (d : Does x replica note bodies m made) (plain : SupersedesNone bodies) (p : PassesOn (links_in x.ops) m replica noted y links ids) where
   -- the second command leaves the entries and their retirements as they are
   stands_after : (i : Id) → stands y.ops i ≡ stands m.ops i
   stands_after i =
       let entered : enters y.ops i ≡ enters m.ops i =
-      enters_after m y replica noted (bodies_of links) ids p.does i ∙ ap (λ b. enters m.ops i || b) (none_enter links (p.does).ops i (bodies_are m replica noted (bodies_of links) (p.does).ops (p.does).are_made)) ∙ or_end (enters m.ops i) in
+      enters_after m y replica noted (bodies_of links) ids p.does i ∙ ap (λ b. enters m.ops i || b) (none_enter links (p.does).ops i (bodies_are m replica noted (bodies_of links) (p.does).ops (p.does).are_made)) ∙ or-false (enters m.ops i) in
       let gone : retires y.ops i ≡ retires m.ops i =
-      retires_after m y replica noted (bodies_of links) ids p.does i ∙ ap (λ b. retires m.ops i || b) (none_retire links i) ∙ or_end (retires m.ops i) in
+      retires_after m y replica noted (bodies_of links) ids p.does i ∙ ap (λ b. retires m.ops i || b) (none_retire links i) ∙ or-false (retires m.ops i) in
       λ k. entered k && not (gone k)
 
   -- what supersedes after the command did before
   old_supersedes : (a b : Id) → stands m.ops a ≡ true → supersedes_by m.ops a b ≡ supersedes_by x.ops a b
   old_supersedes a b h =
-      supersedes_after x m replica note bodies made d a b (standing_none m.ops a h).1
-      ∙ ap (λ t. supersedes_by x.ops a b || t) (none_supersede bodies plain a b) ∙ or_end (supersedes_by x.ops a b)
+      supersedes_after x m replica note bodies made d a b (stands_parts m.ops a h).1
+      ∙ ap (λ t. supersedes_by x.ops a b || t) (none_supersede bodies plain a b) ∙ or-false (supersedes_by x.ops a b)
 
   new_supersedes : (a b : Id) → stands m.ops a ≡ true → supersedes_by y.ops a b ≡ (supersedes_by m.ops a b || some_supersede (bodies_of links) a b)
-  new_supersedes a b h = supersedes_after m y replica noted (bodies_of links) ids p.does a b (standing_none y.ops a (stands_after a ∙ h)).1
+  new_supersedes a b h = supersedes_after m y replica noted (bodies_of links) ids p.does a b (stands_parts y.ops a (stands_after a ∙ h)).1
 
   linked_from : (a b : Id) → stands m.ops a ≡ true → stands m.ops b ≡ true → supersedes_by y.ops a b ≡ true → is_linked y.ops a b ≡ true
   linked_from a b ha hb s =
@@ -282,7 +266,7 @@ module _ (x m y : Content) (replica note noted : List ℕ) (bodies : List Body) 
 
   -- an entry that stands after the command stood before, if it was there
   stood : (i : Id) → stands m.ops i ≡ true → enters x.ops i ≡ true → stands x.ops i ≡ true
-  stood i h there = and_from (enters x.ops i) (not (retires x.ops i)) there (ap not (first_of (retires x.ops i) (some_retire bodies i) (sym (retires_after x m replica note bodies made d i) ∙ (standing_none m.ops i h).1)))
+  stood i h there = and_from (enters x.ops i) (not (retires x.ops i)) there (ap not (first_of (retires x.ops i) (some_retire bodies i) (sym (retires_after x m replica note bodies made d i) ∙ (stands_parts m.ops i h).1)))
     where
       first_of : (a b : Bool) → (a || b) ≡ false → a ≡ false
       first_of true b k = absurd (true≢false k)
@@ -324,8 +308,8 @@ module _ (x m y : Content) (replica note noted : List ℕ) (bodies : List Body) 
       | inr w ↦
           let p0 = and_parts (stands y.ops a) (stands y.ops b && supersedes_by y.ops a b) h in
           let p1 = and_parts (stands y.ops b) (supersedes_by y.ops a b) p0.1 in
-          let ea : enters x.ops a ≡ true = sym (same a) ∙ (standing_none m.ops a (sym (stands_after a) ∙ p0.0)).0 in
-          let eb : enters x.ops b ≡ true = sym (same b) ∙ (standing_none m.ops b (sym (stands_after b) ∙ p1.0)).0 in
+          let ea : enters x.ops a ≡ true = sym (same a) ∙ (stands_parts m.ops a (sym (stands_after a) ∙ p0.0)).0 in
+          let eb : enters x.ops b ≡ true = sym (same b) ∙ (stands_parts m.ops b (sym (stands_after b) ∙ p1.0)).0 in
           absurd (true≢false (sym (and_from (enters x.ops a) (enters x.ops b) ea eb) ∙ w.missing))
     ],
     λ w. passes_on w.old w.newer a b w.linked w.heir_of_old w.heir_of_newer differ,
@@ -336,7 +320,7 @@ module _ (x m y : Content) (replica note noted : List ℕ) (bodies : List Body) 
 pub linked_is_superseded : (s : Ops) (a b : Id) → is_linked s a b ≡ true → status s a ≡ Some Superseded
 linked_is_superseded s a b h =
     let p = and_parts (stands s a) (stands s b && supersedes_by s a b) h in
-    let q = standing_none s a p.0 in
+    let q = stands_parts s a p.0 in
     let there : supersedes s a ≡ true = any_more (set.items s) ((and_parts (stands s b) (supersedes_by s a b) p.1).1) in
     simp (q.0, q.1, there)
   where

@@ -5,8 +5,11 @@ mod LiveLemmas
 mod MarkLemmas
 mod StepLemmas
 mod TextLemmas
-mod VoiceLemmas
+pub mod VoiceLemmas
 mod ToldLemmas
 mod PermutedLemmas
 mod RuleLemmas
 mod ScreenLemmas
+mod WordLemmas
+mod SiftLemmas
+mod DisputeLemmas

@@ -5,9 +5,11 @@ use Rattle.std.specs.List.{list_any}
 use Rattle.std.specs.BTreeSet.{insert_key}
 use Rattle.std.specs.declared.cmp.Ordering.{Ordering}
 use Rattle.std.specs.declared.cmp.Ordering.TheVariants.{Less, Equal, Greater}
-use Rattle.std.specs.Ordering.{nat_cmp, is_eq, match_ordering}
-use Rattle.std.specs.Cmp.Lexicographic.{slice_cmp, same_text, texts_ties}
+use Rattle.std.specs.Ordering.{nat_cmp, match_ordering}
+use Rattle.std.specs.Cmp.Lexicographic.{slice_cmp}
 use Rattle.reg_lint.specs.Known.{is_same}
+use Rattle.reg_report.proofs.SortLemmas.{or_again}
+use Rattle.reg_sense.proofs.OrderLemmas.{one_text}
 
 swap : (a b c : Bool) → (a || (b || c)) ≡ (b || (a || c))
 swap true true c = refl
@@ -15,18 +17,11 @@ swap true false c = refl
 swap false true c = refl
 swap false false c = refl
 
-twice : (a c : Bool) → (a || c) ≡ (a || (a || c))
-twice true c = refl
-twice false c = refl
-
 abbrev pub bytes_cmp : Vec ℕ → Vec ℕ → Ordering
 bytes_cmp a b = slice_cmp nat_cmp a.items b.items
 
 abbrev pub among_keys : List ℕ → List (Vec ℕ) → Bool
 among_keys m keys = list_any (λ (k : Vec ℕ). is_same m k.items) keys
-
-same_of : (a b : List ℕ) → slice_cmp nat_cmp a b ≡ Equal → a ≡ b
-same_of a b e = same_text a b (sym (texts_ties a b ∙ ap is_eq e))
 
 -- the keys after one more, by its place among them
 abbrev placed : List ℕ → Vec ℕ → Vec ℕ → List (Vec ℕ) → Ordering → Bool
@@ -42,8 +37,8 @@ any_after m k (x ∷ xs) = by (bytes_cmp k x) refl (any_after m k xs)
     by Less e later = ap (placed m k x xs) e
     by Equal e later =
         ap (placed m k x xs) e
-        ∙ twice (is_same m x.items) (among_keys m xs)
-        ∙ ap (λ t. is_same m t || (is_same m x.items || among_keys m xs)) (sym (same_of k.items x.items e))
+        ∙ or_again (is_same m x.items) (among_keys m xs)
+        ∙ ap (λ t. is_same m t || (is_same m x.items || among_keys m xs)) (sym (one_text k.items x.items e))
     by Greater e later =
         ap (placed m k x xs) e
         ∙ ap (λ b. is_same m x.items || b) later

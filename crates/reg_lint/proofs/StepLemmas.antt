@@ -1,6 +1,6 @@
 -- One rule, and one reference system at a time.
-use Rattle.std.proofs.Common.{◌≡◌, Bool, ℕ, Option, List, [], ◌∷◌, ◌++◌, length, sym, ap, ◌∙◌, arith}
-use Rattle.std.proofs.lemmas.List.{append_assoc, append-nil}
+use Rattle.std.proofs.Common.{◌≡◌, Bool, ℕ, Option, List, ◌∷◌, ◌++◌, sym, ap, ◌∙◌}
+use Rattle.std.proofs.lemmas.List.{append_assoc}
 use Rattle.reg_lint.specs.declared.rule.AnyRule.{AnyRule}
 use Rattle.reg_lint.specs.Subjects.{Subject}
 use Rattle.reg_lint.specs.Details.{details}
@@ -17,10 +17,6 @@ module _ (known : List ℕ → Bool) where
       ∙ ap (λ l. old ++ all_lines known l ss) (sym r)
       ∙ inv
 
-  pub no_rule : (rest : List AnyRule) (ss : List Subject) (old end : List ℕ) → length rest ≡ 0 → old ++ all_lines known rest ss ≡ end → old ≡ end
-  no_rule [] ss old end e inv = sym (append-nil old) ∙ inv
-  no_rule (r ∷ rs) ss old end e inv = absurd (omega (arith, e))
-
   -- the row of one reference system was written
   pub line_step : (rule : AnyRule) (s : Subject) (later left : List Subject) (d : Option (List ℕ)) (others rest : List (Option (List ℕ))) (old new end : List ℕ)
       → left ≡ s ∷ later → rest ≡ d ∷ others → new ≡ old ++ line_of known rule s d
@@ -30,12 +26,3 @@ module _ (known : List ℕ → Bool) where
       ∙ append_assoc old (line_of known rule s d) (lines_of known rule later others)
       ∙ (λ j. old ++ lines_of known rule (sym l j) (sym r j))
       ∙ inv
-
-  pub no_subject : (rule : AnyRule) (left : List Subject) (rest : List (Option (List ℕ))) (old end : List ℕ) → length left ≡ 0 → old ++ lines_of known rule left rest ≡ end → old ≡ end
-  no_subject rule [] rest old end e inv = sym (append-nil old) ∙ inv
-  no_subject rule (s ∷ ss) rest old end e inv = absurd (omega (arith, e))
-
-  pub no_detail : (rule : AnyRule) (left : List Subject) (rest : List (Option (List ℕ))) (old end : List ℕ) → length rest ≡ 0 → old ++ lines_of known rule left rest ≡ end → old ≡ end
-  no_detail rule [] [] old end e inv = sym (append-nil old) ∙ inv
-  no_detail rule (s ∷ ss) [] old end e inv = sym (append-nil old) ∙ inv
-  no_detail rule left (d ∷ ds) old end e inv = absurd (omega (arith, e))

@@ -18,10 +18,6 @@ use Rattle.reg_news.specs.Keys.{same_key, HasKeys}
 abbrev pub as_key : List ℕ → Bor (List ℕ)
 as_key t = record { ref_ptr = (0, 0); now = t }
 
-pub cond_or : (b x : Bool) → cond b true x ≡ (b || x)
-cond_or true x = refl
-cond_or false x = refl
-
 -- F holds of the first k items and one more
 pub items_more : {X Y : Type 0} (f : X → Y) (F : List Y → Type 0) (xs : List X) (k : ℕ) (x : X) → k < length xs → x ≡ get_or xs k x → F (map f (take k xs) ++ f x ∷ []) → F (map f (take (k + 1) xs))
 items_more f F xs k x h at p = subst F ((λ j. map f (take k xs) ++ f (at j) ∷ []) ∙ sym (map_more f xs k x h)) p

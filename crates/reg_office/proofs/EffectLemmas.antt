@@ -4,6 +4,7 @@ use Rattle.std.proofs.lemmas.Bool.{true≢false}
 use Rattle.std.proofs.lemmas.List.{drop_more, drop_all}
 use Rattle.std.proofs.lemmas.List.Folds.{list_any-append}
 use Rattle.std.proofs.lemmas.List.Elements.{All-cons}
+use Rattle.std.proofs.Math.Bool.{or_assoc, and-or_distrib_left, and-false}
 use Rattle.std.specs.List.{list_any}
 use Rattle.std.specs.Cmp.{tied_itself}
 use Rattle.std.specs.Ordering.{is_eq}
@@ -46,18 +47,6 @@ record Grown (c : Command) (ops : Ops) (before : List Id) (now : Ops) : Type 0 w
   retired : (e : Id) → retires now e ≡ (retires ops e || retired_by c before e)
   replaced : (e n : Id) → is_replaced_by now e n ≡ (not (retires now e) && (any (supersession e n) ops || superseded_by c before e n))
 
-or_assoc : (a b c : Bool) → ((a || b) || c) ≡ (a || (b || c))
-or_assoc true b c = refl
-or_assoc false b c = refl
-
-and_or : (a b c : Bool) → (a && (b || c)) ≡ ((a && b) || (a && c))
-and_or true b c = refl
-and_or false b c = refl
-
-and_end : (a : Bool) → (a && false) ≡ false
-and_end true = refl
-and_end false = refl
-
 grown_none : (c : Command) (ops : Ops) → Grown c ops [] ops
 grown_none c ops = record {
   entered = λ e. refl;
@@ -71,14 +60,14 @@ grown_none c ops = record {
 
     none_by : (c : Command) (e n : Id) → false ≡ superseded_by c [] e n
     none_by Retire e n = refl
-    none_by (Supersede old) e n = sym (and_end (is_same e old))
+    none_by (Supersede old) e n = sym (and-false (is_same e old))
 
 -- ---- one more effect
 
 any-one : (t : Op → Bool) (o : Op) → any t (one o) ≡ t o
 any-one t o = any-from_list t (o ∷ []) ∙ or-false (t o)
 
-any-with : (t : Op → Bool) (s : Ops) (o : Op) → any t (set.union s (one o)) ≡ (any t s || t o)
+pub any-with : (t : Op → Bool) (s : Ops) (o : Op) → any t (set.union s (one o)) ≡ (any t s || t o)
 any-with t s o = any-union op_total op_exact t s (one o) ∙ ap (λ b. any t s || b) (any-one t o)
 
 no_enter : (c : Command) (e : Id) → is_enter (effect_of c e) ≡ false
@@ -92,7 +81,7 @@ retired_more (Supersede old) before f e = refl
 superseded_more : (c : Command) (before : List Id) (f e n : Id) → (superseded_by c before e n || is_supersession e (is_same n) (effect_of c f)) ≡ superseded_by c (before ++ f ∷ []) e n
 superseded_more Retire before f e n = refl
 superseded_more (Supersede old) before f e n =
-    sym (and_or (is_same e old) (list_any (is_same n) before) (is_same n f))
+    sym (and-or_distrib_left (is_same e old) (list_any (is_same n) before) (is_same n f))
     ∙ ap (λ b. is_same e old && b) (ap (λ b. list_any (is_same n) before || b) (sym (or-false (is_same n f))) ∙ sym (list_any-append (is_same n) before (f ∷ [])))
 
 still_replaced : (r p a b t u : Bool) → (not r && a) ≡ (not r && (t || u)) → (not (r || p) && (a || b)) ≡ (not (r || p) && (t || (u || b)))
@@ -111,7 +100,7 @@ module _ (c : Command) (ops : Ops) (before : List Id) (y : Content) (i f : Id) (
 
   grown_more : Grown c ops before y.ops → Grown c ops (before ++ f ∷ []) (with_op y o).ops
   grown_more g = subst (Grown c ops (before ++ f ∷ [])) (sym (kept-union_right y.ops (one o))) (record {
-    entered = λ e. enters-kept s e ∙ any-with (λ p. is_same e p.id && is_enter p.body) y.ops o ∙ (λ k. g.entered e k || (is_same e i && no_enter c f k)) ∙ ap (λ b. enters ops e || b) (and_end (is_same e i)) ∙ or-false (enters ops e);
+    entered = λ e. enters-kept s e ∙ any-with (λ p. is_same e p.id && is_enter p.body) y.ops o ∙ (λ k. g.entered e k || (is_same e i && no_enter c f k)) ∙ ap (λ b. enters ops e || b) (and-false (is_same e i)) ∙ or-false (enters ops e);
     retired = λ e. retires-kept s e ∙ any-with (is_off e) y.ops o ∙ ap (λ b. b || is_retirement e (effect_of c f)) (g.retired e) ∙ or_assoc (retires ops e) (retired_by c before e) (is_retirement e (effect_of c f)) ∙ ap (λ b. retires ops e || b) (retired_more c before f e);
     replaced = λ e n.
         replaced_by-kept s e n

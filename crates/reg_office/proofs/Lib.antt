@@ -15,3 +15,4 @@ pub mod WorldMade
 pub mod WorldSame
 pub mod PooledLemmas
 pub mod WorldOnce
+pub use Rattle.reg_file.proofs.BodyLemmas

@@ -4,8 +4,6 @@ use Rattle.std.proofs.lemmas.Bool.{true≢false, and_parts, and_from, or_cases, 
 use Rattle.std.proofs.lemmas.List.Folds.{list_any-append}
 use Rattle.std.specs.List.{list_any}
 use Rattle.std.specs.Prelude.{option_map}
-use Rattle.std.specs.Cmp.{tied_itself}
-use Rattle.std.specs.Ordering.{is_eq}
 use Rattle.reg_op.specs.Set as set
 use Rattle.reg_op.specs.Set.{contains, contains-from_list}
 use Rattle.reg_op.specs.Ids.{Id, is_same, is_before}
@@ -16,7 +14,7 @@ use Rattle.reg_op.specs.declared.operation.OpBody.{OpBody as Body}
 use Rattle.reg_op.specs.declared.operation.OpBody.TheVariants.{Enter, Supersede as Superseding, Retire as Retiring}
 use Rattle.reg_op.specs.Contents.{Content, state, merged}
 use Rattle.reg_op.specs.Status.{enters, retires, is_replaced_by, is_retirement, is_supersession}
-use Rattle.reg_op.proofs.OpLemmas.{id_total, op_total, op_exact, is_same_exact, is_same_back, replaces_irreflexive}
+use Rattle.reg_op.proofs.OpLemmas.{op_total, op_exact, is_same_exact, is_same_back, replaces_irreflexive}
 use Rattle.reg_op.proofs.FiniteLemmas.{any_from_member, member_from_any}
 use Rattle.reg_op.proofs.ContentLemmas.{contains_op-union, kept_is_within}
 use Rattle.reg_op.proofs.OneLemmas.{kept_has}
@@ -32,14 +30,12 @@ use Rattle.reg_office.proofs.EffectLemmas.{chain, faults, effects, objections_ar
 use Rattle.reg_office.proofs.NumberLemmas.{op_cases}
 use Rattle.reg_office.proofs.LawLemmas.{made_are}
 use Rattle.reg_office.proofs.RepeatLemmas.{again_refused}
+use Rattle.reg_file.proofs.BodyLemmas.{same_itself}
 
 -- no entry is in the list twice
 abbrev pub Distinct : List Id → Type 0
 Distinct [] = Unit {0}
 Distinct (e ∷ es) = (list_any (is_same e) es ≡ false) × Distinct es
-
-same_itself : (i : Id) → is_same i i ≡ true
-same_itself i = ap is_eq (tied_itself id_total i)
 
 not_again : (c : Command) (ops : Ops) (b : Bool) (e : Id) → fault_of c ops b e ≡ None → b ≡ false
 not_again c ops false e h = refl
@@ -111,7 +107,7 @@ none_replaces c r n note (e ∷ es) d p o h k over =
 abbrev of_list : List Op → Ops
 of_list os = set.from_list {R = op_cmp} os
 
-in_list : (os : List Op) (o : Op) → contains (of_list os) o ≡ true → has os o ≡ true
+pub in_list : (os : List Op) (o : Op) → contains (of_list os) o ≡ true → has os o ≡ true
 in_list os o h = sym (contains-from_list op_total os o) ∙ h
 
 in_set : (os : List Op) (o : Op) → has os o ≡ true → contains (of_list os) o ≡ true
@@ -178,7 +174,7 @@ joined_has x os o h free past =
       | inr b ↦ free p o (in_list os p (kept_is_within (of_list os) p b)) h over
     ])
 
-not_refused : (f : Option OfficeFault) (spent : Bool) (os ps : List Op) → made_unless f spent os ≡ Ok ps → f ≡ None
+pub not_refused : (f : Option OfficeFault) (spent : Bool) (os ps : List Op) → made_unless f spent os ≡ Ok ps → f ≡ None
 not_refused None spent os ps h = refl
 not_refused (Some f) spent os ps h = cc
 
@@ -194,7 +190,7 @@ effects_kept c x r note es os o h k =
     (λ p a over. none_above c x.ops m.0 (each_new c x.ops [] es none m.0 m.1) p.id p.body p.note (is_before p.id o.id) a (subst (λ b. replaces_body (is_before p.id o.id) p.body b ≡ true) m.2 over)))
 
 -- no body replaces an Enter
-over_enter : (before : Bool) (b : Body) (text : List ℕ) → replaces_body before b (Enter text) ≡ true → ⊥
+pub over_enter : (before : Bool) (b : Body) (text : List ℕ) → replaces_body before b (Enter text) ≡ true → ⊥
 over_enter before (Enter t) text h = true≢false (sym h)
 over_enter before (Superseding a n) text h = true≢false (sym h)
 over_enter before (Retiring e) text h = true≢false (sym h)

@@ -19,7 +19,7 @@ use Rattle.reg_state.specs.Runs.{id_at}
 use Rattle.reg_office.specs.declared.fault.OfficeFault.{OfficeFault}
 use Rattle.reg_office.specs.Making.{greatest, numbered, objection, objections, with_op, else_next, note_fault, is_spent, made_unless, made}
 use Rattle.reg_office.specs.World.{IsEffect}
-use Rattle.reg_office.proofs.EffectLemmas.{chain}
+use Rattle.reg_office.proofs.EffectLemmas.{chain, nothing_against}
 use Rattle.reg_office.proofs.NumberLemmas.{numbered_on, numbered_by_id}
 use Rattle.reg_office.proofs.LawLemmas.{made_are, short_from}
 
@@ -39,10 +39,6 @@ body_from ops (Supersede old newer) h is = (
 )
 body_from ops (Retire entry) h is = is
 
-none_next : (r rest : Option OfficeFault) → else_next r rest ≡ None → (r ≡ None) × (rest ≡ None)
-none_next None rest h = (refl, h)
-none_next (Some f) rest h = cc
-
 id_from : (r : List ℕ) (n k limit : ℕ) → length r ≡ 16 → All (λ b. b < 256) r → 0 < n → n + k < limit → limit ≡ 2 ^ 32 → IsId (id_at r n)
 id_from r n k limit long bytes pos fits is = record { long = long; bytes = bytes; positive = omega arith; fits = subst (λ m. n < m) is (omega arith) }
 
@@ -52,7 +48,7 @@ module _ (r : List ℕ) (long : length r ≡ 16) (bytes : All (λ b. b < 256) r)
   numbered_are x n limit [] is pos fits each free o h = absurd (true≢false (sym h))
   numbered_are x n limit (b ∷ bs) is pos fits each free o h =
       let first : Op = record { id = id_at r n; body = b; note = note } in
-      let f = none_next (objection x.ops b) (objections (with_op x first) (numbered r (n + 1) note bs)) free in
+      let f = nothing_against (objection x.ops b) (objections (with_op x first) (numbered r (n + 1) note bs)) free in
       elim (or_cases (eq_by_cmp op_cmp o first) (has (numbered r (n + 1) note bs) o) h) [
         | inl e ↦ subst IsOperation (sym (op_exact o first ((Equal-is (op_cmp o first)).0 e))) (record {
           id = id_from r n (length bs) limit long bytes pos (omega arith) is;
@@ -78,7 +74,7 @@ made_operations x r note [] os long bytes each utf8 h o k = absurd (true≢false
 made_operations x r note (b ∷ bs) os long bytes each utf8 h o k =
     let g = greatest r x.seen in
     let f = free_from (else_next (note_fault note) (objections x (numbered r (g + 1) note (b ∷ bs)))) (is_spent g (length (b ∷ bs))) (numbered r (g + 1) note (b ∷ bs)) os h in
-    let free = none_next (note_fault note) (objections x (numbered r (g + 1) note (b ∷ bs))) f.0 in
+    let free = nothing_against (note_fault note) (objections x (numbered r (g + 1) note (b ∷ bs))) f.0 in
     numbered_are r long bytes note (record { utf8 = utf8; short = short_from 200 (length note) free.0 }) x (g + 1) (4294967295 + 1) (b ∷ bs) refl (omega arith) (unspent_back 4294967295 g (length (b ∷ bs)) (omega arith) f.1) each free.1 o
     (subst (λ l. has l o ≡ true) (made_are x r note (b ∷ bs) os h) k)
 

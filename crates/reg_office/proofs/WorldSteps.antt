@@ -211,10 +211,10 @@ answer_keeps w v inv i place h k =
 
 -- ---- an operation is found by its id
 
-head_has : (p : Op) (os : List Op) → has (p ∷ os) p ≡ true
+pub head_has : (p : Op) (os : List Op) → has (p ∷ os) p ≡ true
 head_has p os = or_left _ (has os p) (ap is_eq (tied_itself op_total p))
 
-tail_has : (q p : Op) (os : List Op) → has os q ≡ true → has (p ∷ os) q ≡ true
+pub tail_has : (q p : Op) (os : List Op) → has os q ≡ true → has (p ∷ os) q ≡ true
 tail_has q p os h = or_right (eq_by_cmp op_cmp q p) _ h
 
 same_id : (o p : Op) → eq_by_cmp op_cmp o p ≡ true → is_same p.id o.id ≡ true

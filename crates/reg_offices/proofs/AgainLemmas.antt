@@ -1,31 +1,23 @@
 -- A command that is run again is found.
 use Rattle.std.proofs.Common.{◌≡◌, ◌≢◌, ℕ, Bool, true, false, not, ◌&&◌, List, [], ◌∷◌, length, nat_lt, refl, ap, ◌∙◌, arith}
 use Rattle.std.proofs.lemmas.Bool.Decides.{nat_tests}
-use Rattle.std.proofs.lemmas.Bool.{or_left, or_right, and_from}
-use Rattle.std.specs.Cmp.{tied_itself}
+use Rattle.std.proofs.lemmas.Bool.{and_from}
 use Rattle.std.specs.List.{list_all}
-use Rattle.std.specs.Ordering.{is_eq, eq_by_cmp}
 use Rattle.reg_op.specs.Set.{contains}
 use Rattle.reg_op.specs.Ids.{Ids}
 use Rattle.reg_op.specs.Finite.{any}
-use Rattle.reg_op.specs.Operations.{Op, Ops, op_cmp, kept, replaces}
+use Rattle.reg_op.specs.Operations.{Op, Ops, kept, replaces}
 use Rattle.reg_op.specs.declared.operation.OpBody.{OpBody as Body}
 use Rattle.reg_op.specs.Lists.{has}
-use Rattle.reg_op.proofs.OpLemmas.{op_total}
 use Rattle.reg_op.proofs.ContentLemmas.{contains-kept}
 use Rattle.reg_office.specs.Making.{numbered}
+use Rattle.reg_office.proofs.WorldSteps.{head_has, tail_has}
 use Rattle.reg_journal.specs.Again.{is_late, is_again, still_holds}
 use Rattle.reg_offices.specs.Again.{IsMissed}
 
-head_there : (o : Op) (os : List Op) → has (o ∷ os) o ≡ true
-head_there o os = or_left _ (has os o) (ap is_eq (tied_itself op_total o))
-
-tail_there : (q o : Op) (os : List Op) → has os q ≡ true → has (o ∷ os) q ≡ true
-tail_there q o os m = or_right (eq_by_cmp op_cmp q o) _ m
-
 all_pass : (t : Op → Bool) (os : List Op) → ((o : Op) → has os o ≡ true → t o ≡ true) → list_all t os ≡ true
 all_pass t [] f = refl
-all_pass t (o ∷ os) f = and_from (t o) (list_all t os) (f o (head_there o os)) (all_pass t os (λ q m. f q (tail_there q o os m)))
+all_pass t (o ∷ os) f = and_from (t o) (list_all t os) (f o (head_has o os)) (all_pass t os (λ q m. f q (tail_has q o os m)))
 
 late_kept : (all : Ops) (o : Op) → contains all o ≡ true → any (λ p. replaces p o) all ≡ false → contains (kept all) o ≡ true
 late_kept all o there needed = contains-kept all o ∙ and_from (contains all o) (not (any (λ p. replaces p o) all)) there (ap not needed)

@@ -8,11 +8,11 @@ use Rattle.reg_op.specs.Contents.{state}
 use Rattle.reg_office.specs.declared.fault.OfficeFault.{OfficeFault}
 use Rattle.reg_office.specs.Making.{made}
 use Rattle.reg_journal.specs.Journals.{Copy, new_ops, both, IsWithin}
-use Rattle.reg_journal.proofs.JournalLemmas.{Invariant, IsCopy, base_is, file_join, new_join, all_is_there, old_is_there}
+use Rattle.reg_journal.proofs.JournalLemmas.{Invariant, IsCopy, base_is, file_join, new_join, all_is_there, old_is_there, own_file}
 use Rattle.reg_offices.specs.Works.{Command, Work, worked, works, works_on, work}
 use Rattle.reg_offices.specs.Desk.{Begins, HasLock, HasFile, HasRead, HasNoted, HasReplaced, HasPrinted, Ended, Desk, Locks, Opens, Reads, Notes, Replaces, Prints, at_stage, at_path, is_locking, comes_to, locking, locks, opens, reads, noted, notes, replaces, prints, happens, after}
 use Rattle.reg_offices.specs.Worlds.{all_steps}
-use Rattle.reg_offices.proofs.StageLemmas.{own_stage, own_file, own_path}
+use Rattle.reg_offices.proofs.StageLemmas.{own_stage, own_path}
 use Rattle.reg_offices.proofs.StepLemmas.{Holds}
 use Rattle.reg_offices.proofs.NotedLemmas.{invariant}
 use Rattle.reg_offices.proofs.DeskLemmas.{is_copy}

@@ -7,12 +7,12 @@ use Rattle.reg_op.specs.Lists.{has}
 use Rattle.reg_op.proofs.ContentLemmas.{union_left, union_right}
 use Rattle.reg_journal.specs.Journals.{Copy, World, Event, Makes, new_ops, both, base, IsWithin}
 use Rattle.reg_journal.specs.Journals as worlds
-use Rattle.reg_journal.proofs.JournalLemmas.{Invariant, IsCopy, always as always_world, copy_at, same_ok, base_is, new_id}
+use Rattle.reg_journal.proofs.JournalLemmas.{Invariant, IsCopy, always as always_world, copy_at, same_ok, base_is, new_id, own_file}
 use Rattle.reg_offices.specs.Works.{Command, Work, work}
 use Rattle.reg_offices.specs.Desk.{Stage, Begins, HasLock, HasFile, HasRead, HasNoted, HasReplaced, HasPrinted, Ended, Desk, at_lock, given, noted, notes}
 use Rattle.reg_offices.specs.Worlds.{IsAmong}
 use Rattle.reg_offices.proofs.WorkLemmas.{with_work, happens_is, IsWork, work_is}
-use Rattle.reg_offices.proofs.StageLemmas.{at_each_office, own_file}
+use Rattle.reg_offices.proofs.StageLemmas.{at_each_office}
 use Rattle.reg_offices.proofs.StepLemmas.{Fits, IsReached, Holds, Next, stay, given_there, in_new, stepped, held_moved, other_locks, other_files, another, fits_at, freed}
 
 after_last : (es : List Event) (e : Event) (w : World) → worlds.after (es ++ e ∷ []) w ≡ worlds.happens (worlds.after es w) e

@@ -5,7 +5,7 @@ use Rattle.std.proofs.lemmas.Bool.Decides.{eqb_tells, nat_tests}
 use Rattle.std.specs.Ordering.{is_eq}
 use Rattle.reg_state.specs.Runs.{replica_cmp}
 use Rattle.reg_state.proofs.RunLemmas.{same_replica, replica_itself}
-use Rattle.reg_journal.specs.Journals.{Copy, at_office}
+use Rattle.reg_journal.specs.Journals.{Copy}
 use Rattle.reg_offices.specs.Desk.{Stage, at_stage, at_lock, at_path}
 
 pub same_number : (k : ℕ) → eqb k k ≡ true
@@ -39,9 +39,6 @@ own_stage stages k s = ap (λ b. cond b s (stages k)) (same_number k)
 
 pub own_lock : (locks : List ℕ → Option ℕ) (i : List ℕ) (holder : Option ℕ) → at_lock locks i holder i ≡ holder
 own_lock locks i holder = ap (λ b. cond b holder (locks i)) (replica_itself i)
-
-pub own_file : (files : List ℕ → Copy) (i : List ℕ) (c : Copy) → at_office files i c i ≡ c
-own_file files i c = ap (λ b. cond b c (files i)) (replica_itself i)
 
 pub own_path : (stands : ℕ → Copy) (p : ℕ) (c : Copy) → at_path stands p c p ≡ c
 own_path stands p c = ap (λ b. cond b c (stands p)) (same_number p)

@@ -36,7 +36,7 @@ same_body (Retire x) (Retire y) k e f = cc
 same_body a b k e f = cc
 
 -- a comparison by two parts is Equal only if both parts are
-both_equal : (r t : Ordering) → ordering_then r t ≡ Equal → (r ≡ Equal) × (t ≡ Equal)
+pub both_equal : (r t : Ordering) → ordering_then r t ≡ Equal → (r ≡ Equal) × (t ≡ Equal)
 both_equal Less t e = cc
 both_equal Equal t e = (refl, e)
 both_equal Greater t e = cc

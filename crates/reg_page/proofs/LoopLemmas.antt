@@ -24,11 +24,6 @@ pub flattened : {T U : Type 0} (f : U → List Piece) (g : T → List U) {page :
     → Leads (λ x. flat_map f (g x)) page rest (start ++ html (flat_map (λ x. flat_map f (g x)) items)) → rest ≡ [] → Appends start page (flat_map f (flat_map g items))
 flattened f g start items so_far none = as_others (flat_map (λ x. flat_map f (g x)) items) (flat_map f (flat_map g items)) (sym (flat_map-flat_map f g items)) (leads_done start items so_far none)
 
--- mapping twice is mapping the composition
-pub map_composed : {T U V : Type 0} (f : U → V) (g : T → U) (xs : List T) → map (λ x. f (g x)) xs ≡ map f (map g xs)
-map_composed f g [] = refl
-map_composed f g (x ∷ xs) = ap (λ rest. f (g x) ∷ rest) (map_composed f g xs)
-
 -- one iteration of a loop by index appends one more item
 pub one_more : {T U : Type 0} (f : U → List Piece) (g : T → U) (xs : List T) (i : ℕ) (x : T) {start middle end : List ℕ} → i < length xs → x ≡ get_or xs i x
     → Appends start middle (flat_map f (map g (take i xs))) → Appends middle end (f (g x)) → Appends start end (flat_map f (map g (take (i + 1) xs)))

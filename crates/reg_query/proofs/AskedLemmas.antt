@@ -1,33 +1,23 @@
 -- The requested entries in order, and what a binary search among them finds.
-use Rattle.std.proofs.Common.{◌≡◌, ℕ, ◌+◌, ◌<◌, ◌||◌, Bool, true, false, List, [], ◌∷◌, map, length, Ok, Err, refl, sym, ap, ◌∙◌, subst, inl, inr, arith}
+use Rattle.std.proofs.Common.{◌≡◌, ℕ, ◌+◌, ◌<◌, ◌||◌, Bool, true, false, List, [], ◌∷◌, map, length, Ok, Err, refl, sym, ap, ◌∙◌, subst, inl, inr}
 use Rattle.std.specs.Prelude.{Contains, Result, is_ok}
 use Rattle.std.specs.List.{list_any}
-use Rattle.std.specs.List.Sorted.{IsSorted, IsPermutation, IsPartitionPoint, IsBinarySearchResult, IsSearchInRange}
+use Rattle.std.specs.List.Sorted.{IsSorted, IsPermutation, IsBinarySearchResult, IsSearchInRange}
 use Rattle.std.specs.Cmp.{tied_itself}
 use Rattle.std.specs.Ordering.{is_eq}
-use Rattle.std.specs.declared.cmp.Ordering.{Ordering}
-use Rattle.std.specs.declared.cmp.Ordering.TheVariants.{Less, Equal, Greater}
 use Rattle.std.proofs.lemmas.Bool.{false_from_ne_true, or_left, or_right}
 use Rattle.std.proofs.lemmas.List.Sorted.{searchable_from_sorted, list_any-IsPermutation}
 use Rattle.reg_op.specs.Ids.{Id, id_cmp, is_same}
 use Rattle.reg_op.specs.Operations.{Op}
 use Rattle.reg_op.proofs.OpLemmas.{id_total, id_exact, is_same_exact}
-use Rattle.reg_op.proofs.PointLemmas.{lt_or_ge}
 use Rattle.reg_report.proofs.ConflictLemmas.{none_in, in_cons, in_head, in_tail}
+use Rattle.reg_report.proofs.FoundLemmas.{absent}
 use Rattle.reg_query.specs.Asked.{is_asked, is_logged, AreWanted}
 use Rattle.reg_query.specs.Log.{subject}
 use Rattle.reg_query.specs.declared.log.asked.Asked.{Asked}
 use Rattle.reg_query.specs.declared.log.asked.Asked.TheVariants.{All, These}
 use Rattle.reg_query.specs.declared.log.asked.WantedEntries.TheVariants as wanted
 use Rattle.std.specs.Global.{Vec}
-
--- ---- a binary search
-
-absent : {X : Type 0} (ord : X → Ordering) (xs : List X) (p : ℕ) → IsPartitionPoint (λ y. ord y ≡ Less) (λ y. ord y ≡ Greater) xs p → (x : X) → Contains xs x → ord x ≡ Equal → ⊥
-absent ord xs p point x h same = elim (lt_or_ge h.0 p) [
-  | inl below ↦ let no : Less ≡ Equal = sym (point.0 h.0 x (omega arith) below) ∙ ap ord h.2 ∙ same in absurd cc
-  | inr above ↦ let no : Greater ≡ Equal = sym (point.1 h.0 x above h.1) ∙ ap ord h.2 ∙ same in absurd cc
-]
 
 any_has : (ids : List Id) (i : Id) → Contains ids i → list_any (is_same i) ids ≡ true
 any_has [] i h = absurd (none_in i h)

@@ -1,6 +1,6 @@
 -- The rows that meet a query, one row at a time.
 use Rattle.std.proofs.Common.{◌≡◌, ◌↔◌, ℕ, Bool, true, false, ◌||◌, is_some, IfSome, Option, Some, None, List, [], ◌∷◌, ◌++◌, map, IsTrue, if◌then◌else◌, refl, sym, ap, ◌∙◌, subst, inl, inr}
-use Rattle.std.proofs.lemmas.Bool.{true≢false}
+use Rattle.std.proofs.lemmas.Bool.{true≢false, or_parts}
 use Rattle.std.proofs.lemmas.List.{map-append}
 use Rattle.crs_part.specs.declared.crs.CrsParts.{CrsParts}
 use Rattle.reg_op.specs.Rows.{Row as RowOf}
@@ -41,18 +41,14 @@ more_rows rs q xs row met old new is e are = subst (λ l. AreFound rs q l new) (
 
 -- ---- a query that asks nothing of the reference system
 
-neither : (a b : Bool) → (a || b) ≡ false → (a ≡ false) × (b ≡ false)
-neither true b e = absurd (true≢false e)
-neither false b e = (refl, e)
-
 if_none : {X : Type 0} (o : Option X) (P : X → Type 0) → is_some o ≡ false → IfSome o P
 if_none None P e = tt
 if_none (Some x) P e = absurd (true≢false e)
 
 pub nothing_asked : (q : Query) (crs : CrsParts) → asks_value q ≡ false → MeetsValue q crs
 nothing_asked q crs e =
-    let one = neither (is_some q.area) (is_some q.at || is_some q.kind) e in
-    let two = neither (is_some q.at) (is_some q.kind) one.1 in
+    let one = or_parts (is_some q.area) (is_some q.at || is_some q.kind) e in
+    let two = or_parts (is_some q.at) (is_some q.kind) one.1 in
     record { area = if_none q.area _ one.0; at = if_none q.at _ two.0; kind = if_none q.kind _ two.1 }
 
 -- rows of the program have the same entries as the rows that contracts see

@@ -13,7 +13,7 @@ use Rattle.reg_op.specs.Ids.{Id, id_cmp, is_same}
 use Rattle.reg_op.specs.declared.status.Status.{Status}
 use Rattle.reg_op.specs.declared.status.Status.TheVariants.{Valid, Superseded, Retired}
 use Rattle.reg_op.specs.Rows.{Row}
-use Rattle.reg_op.proofs.OpLemmas.{id_total, id_exact, bytes_exact, is_same_exact}
+use Rattle.reg_op.proofs.OpLemmas.{id_total, id_exact, bytes_exact, is_same_exact, both_equal}
 use Rattle.reg_report.proofs.ConflictLemmas.{none_in, in_cons, in_head, in_tail}
 
 number : Option Status → ℕ
@@ -46,11 +46,6 @@ whole_total =
     then_total (on_total (λ (r : Row). r.entry) id_total)
     (then_total (on_total (λ (r : Row). r.definition) nat_list_cmp_total)
     (then_total (on_total (λ (r : Row). number r.status) nat_cmp_total) (on_total (λ (r : Row). r.newer) (lists_total id_total))))
-
-both_equal : (r t : Ordering) → ordering_then r t ≡ Equal → (r ≡ Equal) × (t ≡ Equal)
-both_equal Less t e = cc
-both_equal Equal t e = (refl, e)
-both_equal Greater t e = cc
 
 whole_exact : (a b : Row) → whole_cmp a b ≡ Equal → a ≡ b
 whole_exact a b e =

@@ -1,9 +1,10 @@
 -- The ids of runs, replica by replica.
-use Rattle.std.proofs.Common.{◌≡◌, ◌↔◌, nat_eq, ℕ, ◌+◌, ◌-◌, ◌≤◌, ◌<◌, zero, suc, Bool, true, false, cond, ◌||◌, List, [], ◌∷◌, ◌++◌, map, length, take, drop, refl, sym, ap, ◌∙◌, subst, inl, inr, zero-add, add-zero, arith}
+use Rattle.std.proofs.Common.{◌≡◌, ◌↔◌, nat_eq, ℕ, ◌+◌, ◌-◌, ◌≤◌, ◌<◌, zero, suc, true, false, cond, ◌||◌, List, [], ◌∷◌, ◌++◌, map, length, take, drop, refl, sym, ap, ◌∙◌, subst, inl, inr, zero-add, add-zero, arith}
 use Rattle.std.proofs.lemmas.List.Sums.{sum_by-cons}
 use Rattle.std.proofs.lemmas.List.{map-append}
 use Rattle.std.proofs.lemmas.List.Folds.{list_any-append}
 use Rattle.std.proofs.lemmas.Cmp.{nat_list_cmp_total}
+use Rattle.std.proofs.Math.Bool.{or_self, or-false}
 use Rattle.std.specs.List.{count_by, prefix_len, list_any}
 use Rattle.std.specs.List.Sorted.{IsPartitionedBy, IsPartitionPoint}
 use Rattle.std.specs.declared.cmp.Ordering.TheVariants.{Less}
@@ -119,20 +120,12 @@ part_of_runs q rs a h l point rest n e m =
 
 -- ---- the replicas of runs
 
-or_itself : (b : Bool) → (b || b) ≡ b
-or_itself true = refl
-or_itself false = refl
-
-or_false : (b : Bool) → (b || false) ≡ b
-or_false true = refl
-or_false false = refl
-
 abbrev replica_in : Id → List ℕ
 replica_in i = i.replica
 
 any_ids : (q p : List ℕ) (low n : ℕ) → list_any (eq_by_cmp replica_cmp q) (map replica_in (ids_from p low (suc n))) ≡ eq_by_cmp replica_cmp q p
-any_ids q p low zero = or_false (eq_by_cmp replica_cmp q p)
-any_ids q p low (suc n) = ap (λ b. eq_by_cmp replica_cmp q p || b) (any_ids q p (low + 1) n) ∙ or_itself (eq_by_cmp replica_cmp q p)
+any_ids q p low zero = or-false (eq_by_cmp replica_cmp q p)
+any_ids q p low (suc n) = ap (λ b. eq_by_cmp replica_cmp q p || b) (any_ids q p (low + 1) n) ∙ or_self (eq_by_cmp replica_cmp q p)
 
 any_run : (q : List ℕ) (r : Run) → r.low ≤ r.high → list_any (eq_by_cmp replica_cmp q) (map replica_in (ids_of_run r)) ≡ eq_by_cmp replica_cmp q r.replica
 any_run q r l =

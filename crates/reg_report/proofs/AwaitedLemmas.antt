@@ -1,6 +1,7 @@
 -- The ids that operations name, without those that were entered.
 use Rattle.std.proofs.Common.{◌≡◌, ℕ, ◌≤◌, Bool, true, false, not, ◌&&◌, ◌||◌, cond, List, [], ◌∷◌, ◌++◌, length, take, refl, sym, ap, ◌∙◌}
 use Rattle.std.proofs.lemmas.List.{take_all}
+use Rattle.std.proofs.Math.Bool.{and-false}
 use Rattle.std.specs.List.{list_any, flat_map, filter}
 use Rattle.reg_op.specs.Set as set
 use Rattle.reg_op.specs.Set.{contains-from_list, contains-retain, same_set}
@@ -9,10 +10,6 @@ use Rattle.reg_op.specs.Operations.{Op, Ops, kept, named_in}
 use Rattle.reg_op.specs.Rows.{awaited}
 use Rattle.reg_op.specs.Status.{enters}
 use Rattle.reg_op.proofs.OpLemmas.{id_total, id_exact, is_same_exact}
-
-and_end : (a : Bool) → (a && false) ≡ false
-and_end true = refl
-and_end false = refl
 
 has_filter : (p : Id → Bool) (n : Id) (xs : List Id) → list_any (is_same n) (filter p xs) ≡ (list_any (is_same n) xs && p n)
 has_filter p n [] = refl
@@ -25,7 +22,7 @@ has_filter p n (x ∷ xs) =
     at : (b c : Bool) → b ≡ c → is_same n x ≡ true → list_any (is_same n) (filter p xs) ≡ (list_any (is_same n) xs && c) → list_any (is_same n) (cond b (x ∷ filter p xs) (filter p xs)) ≡ c
     at true c f e rest = (λ k. e k || list_any (is_same n) (filter p xs)) ∙ f
     at false true f e rest = cc
-    at false false f e rest = rest ∙ and_end _
+    at false false f e rest = rest ∙ and-false _
 
     past : (b : Bool) → is_same n x ≡ false → list_any (is_same n) (filter p xs) ≡ (list_any (is_same n) xs && p n) → list_any (is_same n) (cond b (x ∷ filter p xs) (filter p xs)) ≡ (list_any (is_same n) xs && p n)
     past true e rest = (λ k. e k || list_any (is_same n) (filter p xs)) ∙ rest

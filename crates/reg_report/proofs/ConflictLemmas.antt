@@ -1,6 +1,6 @@
 -- The keys in conflict among sorted entries, found one by one.
 use Rattle.std.proofs.Common.{◌≡◌, ℕ, ◌+◌, ◌<◌, ◌≤◌, nat_eq, Bool, true, false, not, ◌&&◌, cond, List, [], ◌∷◌, ◌++◌, map, length, get_or, take, drop, zero, suc, append_assoc, append-nil, ◌↔◌, refl, sym, ap, ◌∙◌, subst, inl, inr, ◌⊎◌, arith}
-use Rattle.std.proofs.lemmas.Bool.{true≢false, and_parts, or_cases, or_left, or_right, false_from_ne_true, eqb-true, eq-eqb}
+use Rattle.std.proofs.lemmas.Bool.{true≢false, or_cases, or_left, or_right, false_from_ne_true, eq-eqb, not-false, true_from_ne_false}
 use Rattle.std.proofs.lemmas.List.{get_or-drop, get_or-take, length-take, length-drop, take-append-drop}
 use Rattle.std.proofs.lemmas.List.Elements.{Contains-append_left, Contains-append_right, Contains-append_cases}
 use Rattle.std.proofs.lemmas.List.Sums.{prefix_len-le-length, prefix_len_passes, prefix_len_stops}
@@ -11,13 +11,13 @@ use Rattle.std.specs.List.Sorted.{IsSorted}
 use Rattle.std.specs.Cmp.{IsTotalOrder, IsStrictWeakOrder, then_total, on_total, Equal-is, tied_itself}
 use Rattle.std.specs.Cmp.Lexicographic.{slice_cmp, pointwise}
 use Rattle.std.specs.Ordering.{ordering_reverse, is_lt, is_eq, ordering_then, nat_cmp}
-use Rattle.std.specs.declared.cmp.Ordering.{Ordering}
 use Rattle.std.specs.declared.cmp.Ordering.TheVariants.{Less, Equal, Greater}
 use Rattle.reg_op.specs.Set as set
 use Rattle.reg_op.specs.Set.{IsAntisymmetric, Ascends, contains-from_list}
 use Rattle.reg_op.specs.Ids.{Id, Ids, id_cmp, is_same}
 use Rattle.reg_op.proofs.SetLemmas.{less}
-use Rattle.reg_op.proofs.OpLemmas.{bytes_exact, id_total, is_same_exact}
+use Rattle.reg_op.proofs.OpLemmas.{bytes_exact, id_total, is_same_exact, both_equal}
+use Rattle.reg_op.proofs.Defining.{same_bytes}
 use Rattle.reg_report.specs.declared.contender.Contender.{Contender}
 use Rattle.reg_report.specs.Conflicts.{KeyBytes, key_cmp, Contested}
 use Rattle.reg_report.specs.Contenders.{key_of, contender_cmp, has_same_key, has_other_text, conflict_at, Differ, Enters, Tells}
@@ -26,11 +26,6 @@ use Rattle.reg_report.specs.Contenders.{key_of, contender_cmp, has_same_key, has
 
 pub key_total : IsTotalOrder key_cmp
 key_total = then_total (on_total (λ k. k.authority) nat_list_cmp_total) (on_total (λ k. k.code) nat_list_cmp_total)
-
-both_equal : (r t : Ordering) → ordering_then r t ≡ Equal → (r ≡ Equal) × (t ≡ Equal)
-both_equal Less t e = cc
-both_equal Equal t e = (refl, e)
-both_equal Greater t e = cc
 
 pub key_exact : IsAntisymmetric key_cmp
 key_exact a b e =
@@ -225,16 +220,6 @@ module _ (k : KeyBytes) (front back : List Contender) (own : AllOf k front) (pas
 
 -- ---- texts and entries of one key
 
-same_bytes : (a b : List ℕ) → pointwise nat_eq a b ≡ true → a ≡ b
-same_bytes [] [] h = refl
-same_bytes [] (y ∷ ys) h = absurd cc
-same_bytes (x ∷ xs) [] h = absurd cc
-same_bytes (x ∷ xs) (y ∷ ys) h =
-    let t = and_parts (nat_eq x y) (pointwise nat_eq xs ys) h in
-    let first = eqb-true x y t.0 in
-    let rest = same_bytes xs ys t.1 in
-    cc
-
 itself : (a : List ℕ) → pointwise nat_eq a a ≡ true
 itself [] = refl
 itself (x ∷ xs) = ap (λ b. b && pointwise nat_eq xs xs) (eq-eqb x x refl) ∙ itself xs
@@ -243,11 +228,7 @@ differ_from : (a b : Contender) → has_other_text a b ≡ true → a.definition
 differ_from a b h e = true≢false (sym h ∙ ap not (subst (λ t. pointwise nat_eq a.definition t ≡ true) e (itself a.definition)))
 
 one_text : (a b : Contender) → has_other_text a b ≡ false → a.definition ≡ b.definition
-one_text a b h = same_bytes a.definition b.definition (told_true (pointwise nat_eq a.definition b.definition) h)
-  where
-    told_true : (b : Bool) → not b ≡ false → b ≡ true
-    told_true true h = refl
-    told_true false h = absurd cc
+one_text a b h = same_bytes a.definition b.definition (not-false (pointwise nat_eq a.definition b.definition) h)
 
 pub member_of_any : {X : Type 0} (t : X → Bool) (xs : List X) → list_any t xs ≡ true → (x : X) × Contains xs x × (t x ≡ true)
 member_of_any t [] h = absurd (true≢false (sym h))
@@ -350,11 +331,7 @@ module _ (first : Contender) (others : List Contender) (n : ℕ) (n_is : n ≡ p
       let not_after : is_lt (contender_cmp next first) ≡ false = far 0 (suc n) c (omega arith) (omega (arith, there)) in
       let before : key_cmp (key_of first) (key_of next) ≡ Less = before_of (key_of first) (key_of next) not_after (λ e. true≢false (sym (same_key_back first next e) ∙ stops)) in
       let later : is_lt (contender_cmp c next) ≡ false = subst (λ (x : Contender). is_lt (contender_cmp x next) ≡ false) here (far (suc n) (suc (n + m.0)) c (omega arith) (omega (arith, there))) in
-      less (key_cmp (key_of first) (key_of c)) (not_false _ (λ f. true≢false (sym (ap is_lt before) ∙ by_key.chain first c next f later)))
-    where
-      not_false : (b : Bool) → (b ≡ false → ⊥) → b ≡ true
-      not_false true n = refl
-      not_false false n = absurd (n refl)
+      less (key_cmp (key_of first) (key_of c)) (true_from_ne_false _ (λ f. true≢false (sym (ap is_lt before) ∙ by_key.chain first c next f later)))
 
   pub far_back : Far (drop n others)
   far_back i j d h k =

@@ -1,6 +1,6 @@
 -- The entries that are not retired have the conflicts of the rows.
 use Rattle.std.proofs.Common.{◌≡◌, ℕ, ◌+◌, ◌<◌, ◌≤◌, List, [], ◌∷◌, ◌++◌, map, length, get_or, take, refl, sym, ap, ◌∙◌, subst, inl, inr}
-use Rattle.std.proofs.lemmas.List.{take_more, take_all}
+use Rattle.std.proofs.lemmas.List.{take_more, take_all, map_push}
 use Rattle.std.proofs.lemmas.List.Elements.{Contains-append_left, Contains-push, Contains-push_cases}
 use Rattle.std.proofs.lemmas.List.Sorted.{Contains-permutation, IsPermutation-sym}
 use Rattle.std.specs.List.{Contains}
@@ -57,10 +57,6 @@ one_more rs r old new are (inr (stands, (c, of_row, same))) = record {
     | inr e ↦ (c, subst (λ l. Contains l c) (sym same) (Contains-push old c), subst (IsOfRow c) e of_row)
   ];
 }
-
-map_push : {X Y : Type 0} (f : X → Y) (xs : List X) (x : X) → map f (xs ++ x ∷ []) ≡ map f xs ++ f x ∷ []
-map_push f [] x = refl
-map_push f (y ∷ ys) x = ap (λ zs. f y ∷ zs) (map_push f ys x)
 
 pub contenders_more : (rows : List MadeRow) (k : ℕ) (row : MadeRow) (old new : List Contender) → k < length rows → row ≡ get_or rows k row → Adds (row_seen row) old new → AreContenders (map row_seen (take k rows)) old
     → AreContenders (map row_seen (take (k + 1) rows)) new

@@ -80,7 +80,7 @@ others_after s e (o ∷ os) up =
     is_other a b h = false_from_ne_true _ (λ same. not_before_itself a (subst (λ i. is_before a i ≡ true) (sym (is_same_exact a b same)) h))
 
 -- if a list is after an id, each of its operations has a later id
-is_after_first : (i : Id) (os : List Op) (o : Op) → AllAfter i os → has os o ≡ true → is_before i o.id ≡ true
+pub is_after_first : (i : Id) (os : List Op) (o : Op) → AllAfter i os → has os o ≡ true → is_before i o.id ≡ true
 is_after_first i [] o up h = absurd (true≢false (sym h))
 is_after_first i (p ∷ os) o up h = elim (or_cases (eq_by_cmp op_cmp o p) (has os o) h) [
   | inl same ↦ subst (λ (q : Op). is_before i q.id ≡ true) (sym (op_exact o p ((Equal-is (op_cmp o p)).0 same))) up.0

@@ -41,7 +41,7 @@ one_row (r ∷ rs) up a b h k e = elim (in_cons a r rs h) [
 
 -- ---- a binary search
 
-absent : {X : Type 0} (ord : X → Ordering) (xs : List X) (p : ℕ) → IsPartitionPoint (λ y. ord y ≡ Less) (λ y. ord y ≡ Greater) xs p → (x : X) → Contains xs x → ord x ≡ Equal → ⊥
+pub absent : {X : Type 0} (ord : X → Ordering) (xs : List X) (p : ℕ) → IsPartitionPoint (λ y. ord y ≡ Less) (λ y. ord y ≡ Greater) xs p → (x : X) → Contains xs x → ord x ≡ Equal → ⊥
 absent ord xs p point x h same = elim (lt_or_ge h.0 p) [
   | inl below ↦ let no : Less ≡ Equal = sym (point.0 h.0 x (omega arith) below) ∙ ap ord h.2 ∙ same in absurd cc
   | inr above ↦ let no : Greater ≡ Equal = sym (point.1 h.0 x above h.1) ∙ ap ord h.2 ∙ same in absurd cc

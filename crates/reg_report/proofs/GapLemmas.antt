@@ -1,7 +1,6 @@
 -- The gaps between runs are the longest ranges of missing counts.
 use Rattle.std.proofs.Common.{◌≡◌, ℕ, ◌+◌, ◌-◌, ◌<◌, ◌≤◌, nat_lt, append-nil, Bool, true, false, cond, List, [], ◌∷◌, ◌++◌, length, Option, Some, None, zero, suc, refl, sym, ap, ◌∙◌, subst, inl, inr, ◌⊎◌, arith}
-use Rattle.std.proofs.lemmas.Bool.{true≢false, or_cases, or_left, or_right, false_from_ne_true, cases_lt}
-use Rattle.std.proofs.lemmas.Bool.Decides.{nat_tests}
+use Rattle.std.proofs.lemmas.Bool.{true≢false, or_cases, or_left, or_right, false_from_ne_true, cases_lt, lt-ltb, ltb-true}
 use Rattle.std.proofs.lemmas.List.Elements.{Contains-append_left, Contains-append_right, Contains-append_cases}
 use Rattle.std.specs.List.{Contains}
 use Rattle.std.specs.Ordering.{is_eq}
@@ -14,6 +13,7 @@ use Rattle.reg_state.proofs.SearchLemmas.{IsWithin, within, in_run}
 use Rattle.reg_report.specs.declared.gap.Gap.{Gap}
 use Rattle.reg_report.specs.Between.{last_count, gaps_at, gaps_between}
 use Rattle.reg_report.specs.Gaps.{IsGap, ComesFirst, AllLater, Ascend, AreGaps}
+use Rattle.reg_report.proofs.ConflictLemmas.{none_in}
 
 -- ---- ids in runs
 
@@ -134,12 +134,6 @@ record GapIn (before : Option Run) (rs : List Run) (q : List ℕ) (low high : �
   end : InOne (id_at q (high + 1)) before ⊎ In (id_at q (high + 1)) rs
   missing : (n : ℕ) → low ≤ n → n ≤ high → (InOne (id_at q n) before ⊎ In (id_at q n) rs) → ⊥
 
-test_yes : (a b : ℕ) → a < b → nat_lt a b ≡ true
-test_yes a b h = grind (arith, nat_tests)
-
-test_back : (a b : ℕ) → nat_lt a b ≡ true → a < b
-test_back a b h = grind (arith, nat_tests)
-
 -- the counts between b and r, if there are some, are a gap
 at_is : (b : ℕ) (before : Option Run) (r : Run) (rs : List Run) → Good before (r ∷ rs) → Known b before r → b + 1 < r.low → GapIn before (r ∷ rs) r.replica (b + 1) (r.low - 1)
 at_is b before r rs g k h = let is = first_run r rs (good_next before r rs g) in record {
@@ -241,9 +235,6 @@ ahead before r rs q low high g i m =
 abbrev gap_at : Run → ℕ → Gap
 gap_at r b = record { replica = r.replica; low = b + 1; high = r.low - 1 }
 
-none_in : {X : Type 0} (x : X) → Contains [] x → ⊥
-none_in x h = absurd (omega (arith, h.1))
-
 one_in : (g h : Gap) → Contains (h ∷ []) g → g ≡ h
 one_in g h (zero, lt, e) = sym e
 one_in g h (suc k, lt, e) = absurd (omega arith)
@@ -251,12 +242,12 @@ one_in g h (suc k, lt, e) = absurd (omega arith)
 at_from : (before : Option Run) (r : Run) (g : Gap) → Contains (gaps_at before r) g → (last_count before r.replica + 1 < r.low) × (g ≡ gap_at r (last_count before r.replica))
 at_from before r g h =
     elim (nat_lt (last_count before r.replica + 1) r.low) as (λ t. nat_lt (last_count before r.replica + 1) r.low ≡ t → Contains (cond t (gap_at r (last_count before r.replica) ∷ []) []) g → (last_count before r.replica + 1 < r.low) × (g ≡ gap_at r (last_count before r.replica))) [
-      | true ↦ λ e h. (test_back (last_count before r.replica + 1) r.low e, one_in g (gap_at r (last_count before r.replica)) h)
+      | true ↦ λ e h. (ltb-true (last_count before r.replica + 1) r.low e, one_in g (gap_at r (last_count before r.replica)) h)
       | false ↦ λ e h. absurd (none_in g h)
     ] refl h
 
 at_has : (before : Option Run) (r : Run) → last_count before r.replica + 1 < r.low → Contains (gaps_at before r) (gap_at r (last_count before r.replica))
-at_has before r h = subst (λ t. Contains (cond t (gap_at r (last_count before r.replica) ∷ []) []) (gap_at r (last_count before r.replica))) (sym (test_yes (last_count before r.replica + 1) r.low h)) (0, omega arith, refl)
+at_has before r h = subst (λ t. Contains (cond t (gap_at r (last_count before r.replica) ∷ []) []) (gap_at r (last_count before r.replica))) (sym (lt-ltb (last_count before r.replica + 1) r.low h)) (0, omega arith, refl)
 
 sound : (before : Option Run) (rs : List Run) (g : Gap) → Good before rs → Contains (gaps_between before rs) g → GapIn before rs g.replica g.low g.high × AfterAt before g.replica g.low
 sound before [] g good h = absurd (none_in g h)

@@ -4,6 +4,7 @@ use Rattle.std.proofs.lemmas.Bool.{and_from}
 use Rattle.std.proofs.lemmas.List.{take_all}
 use Rattle.std.proofs.lemmas.List.Folds.{list_any_at, list_any-append}
 use Rattle.std.proofs.lemmas.List.Sorted.{list_any-IsPermutation}
+use Rattle.std.proofs.Math.Bool.{or-false}
 use Rattle.std.specs.List.{list_any, flat_map}
 use Rattle.std.specs.List.Sorted.{IsSorted, IsPermutation}
 use Rattle.std.specs.Cmp.{IsTotalOrder, then_total, on_total, tied_itself}
@@ -49,11 +50,7 @@ sorted_tell os k before after h e p t = sym (list_any-IsPermutation t before aft
 
 pairs_tell_one : (e n : Id) (b : Body) → list_any (λ (p : Supersession). is_same e p.old && is_same n p.newer) (pairs_in b) ≡ is_supersession e (is_same n) b
 pairs_tell_one e n (Enter text) = refl
-pairs_tell_one e n (Supersede old newer) = or_end _
-  where
-    or_end : (a : Bool) → (a || false) ≡ a
-    or_end true = refl
-    or_end false = refl
+pairs_tell_one e n (Supersede old newer) = or-false _
 pairs_tell_one e n (Retire entry) = refl
 
 pairs_tell : (e n : Id) (os : List Op) → list_any (λ (p : Supersession). is_same e p.old && is_same n p.newer) (flat_map (λ (o : Op). pairs_in o.body) os) ≡ list_any (λ (o : Op). is_supersession e (is_same n) o.body) os

@@ -1,6 +1,6 @@
 -- The rows of a content ascend by entry, each with the status of its entry; and which of ascending rows come earlier.
 use Rattle.std.proofs.Common.{◌≡◌, ℕ, ◌≤◌, true, false, List, [], ◌∷◌, ◌++◌, map, take, length, refl, sym, ap, ◌∙◌, subst, inl, inr}
-use Rattle.std.proofs.lemmas.Bool.{true≢false, false_from_ne_true}
+use Rattle.std.proofs.lemmas.Bool.{true≢false}
 use Rattle.std.proofs.lemmas.List.{take_all}
 use Rattle.std.proofs.lemmas.List.Elements.{Contains-append_cases}
 use Rattle.std.specs.List.{Contains, flat_map}
@@ -18,9 +18,10 @@ use Rattle.reg_op.specs.declared.operation.OpBody.TheVariants.{Enter, Supersede,
 use Rattle.reg_op.specs.Status.{enters, status}
 use Rattle.reg_op.specs.Contents.{Content, IsContent}
 use Rattle.reg_op.specs.Rows.{Row, newer_of, rows_at, rows}
-use Rattle.reg_op.proofs.OpLemmas.{id_total, not_before_itself}
+use Rattle.reg_op.proofs.OpLemmas.{id_total}
 use Rattle.reg_op.proofs.SetLemmas.{less}
 use Rattle.reg_op.proofs.ItemLemmas.{items_by_id}
+use Rattle.reg_op.proofs.ClashLemmas.{lt_id_itself}
 use Rattle.reg_report.proofs.ConflictLemmas.{none_in, in_cons}
 use Rattle.reg_report.specs.declared.row.Row.{Row as MadeRow}
 use Rattle.reg_report.specs.Rows.{row_cmp}
@@ -94,9 +95,6 @@ row_enters s r h =
 never_back : (a b : Id) → id_cmp a b ≡ Less → is_before b a ≡ false
 never_back a b h = ap is_lt (id_total.antisymm b a ∙ ap ordering_reverse h)
 
-not_itself : (a : Id) → is_before a a ≡ false
-not_itself a = false_from_ne_true _ (not_before_itself a)
-
 -- what stands behind a row is not before it
 behind : (front back : List Row) (x : Row) → Ascends row_cmp (front ++ x ∷ back) → (r : Row) → Contains back r → is_before r.entry x.entry ≡ false
 behind [] back x up r h = never_back x.entry r.entry (first_before row_total x back up r h)
@@ -107,7 +105,7 @@ pub in_front : (front back : List Row) (x : Row) → Ascends row_cmp (front ++ x
 in_front front back x up r h b = elim (Contains-append_cases front (x ∷ back) r h) [
   | inl early ↦ early
   | inr late ↦ elim (in_cons r x back late) [
-    | inl same ↦ absurd (true≢false (sym b ∙ ap (λ (q : Row). is_before q.entry x.entry) same ∙ not_itself x.entry))
+    | inl same ↦ absurd (true≢false (sym b ∙ ap (λ (q : Row). is_before q.entry x.entry) same ∙ lt_id_itself x.entry))
     | inr later ↦ absurd (true≢false (sym b ∙ behind front back x up r later))
   ]
 ]

@@ -16,7 +16,7 @@ use Rattle.reg_op.specs.Set.{IsAntisymmetric, Ascends, items-from_list, same_set
 use Rattle.reg_op.proofs.SetLemmas.{less}
 use Rattle.reg_op.proofs.ClashLemmas.{tied_of}
 
-or_again : (a b : Bool) → (a || b) ≡ (a || (a || b))
+pub or_again : (a b : Bool) → (a || b) ≡ (a || (a || b))
 or_again true b = refl
 or_again false b = refl
 

@@ -43,7 +43,7 @@ both_equal Less p e = absurd (true≢false (ap is_lt e))
 both_equal Equal p e = (refl, e)
 both_equal Greater p e = absurd (true≢false (ap is_gt e))
 
-one_text : (a b : List ℕ) → slice_cmp nat_cmp a b ≡ Equal → a ≡ b
+pub one_text : (a b : List ℕ) → slice_cmp nat_cmp a b ≡ Equal → a ≡ b
 one_text a b e = (bytes_eq-Decides a b).0 (texts_ties a b ∙ ap is_eq e)
 
 -- ---- sentences

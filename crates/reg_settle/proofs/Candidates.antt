@@ -1,12 +1,13 @@
 -- The entries that may be retired: gathered, sorted, and selected by key.
-use Rattle.std.proofs.Common.{◌≡◌, ◌+◌, Bool, true, false, not, ◌&&◌, List, [], ◌∷◌, ◌++◌, map, filter, refl, sym, ap, ◌∙◌, subst, inl, inr, append_assoc, append-nil, cond}
+use Rattle.std.proofs.Common.{◌≡◌, Bool, true, false, not, List, [], ◌∷◌, ◌++◌, map, filter, refl, sym, ap, ◌∙◌, subst, inl, inr, append_assoc, append-nil, cond}
 use Rattle.std.specs.Prelude.{Contains}
 use Rattle.std.specs.List.Sorted.{IsStable, IsPermutation, ties}
-use Rattle.std.specs.Cmp.{IsStrictWeakOrder, Equal-is, tied_itself}
+use Rattle.std.specs.Cmp.{Equal-is, tied_itself}
 use Rattle.std.specs.Ordering.{is_lt, is_eq}
 use Rattle.std.proofs.lemmas.Bool.{true≢false}
 use Rattle.std.proofs.lemmas.List.Elements.{filter_agree}
-use Rattle.std.proofs.lemmas.List.Sorted.{ranks_by, Contains-permutation, IsPermutation-sym}
+use Rattle.std.proofs.lemmas.List.Sorted.{Contains-permutation, IsPermutation-sym}
+use Rattle.std.proofs.Math.Bool.{and_comm}
 use Rattle.reg_op.specs.Ids.{Id}
 use Rattle.reg_op.specs.Rows.{Row}
 use Rattle.reg_report.specs.Conflicts.{KeyBytes, key_cmp, HasKey}
@@ -52,17 +53,8 @@ same_key a b h = key_exact a b ((Equal-is (key_cmp a b)).0 h)
 pub key_itself : (a b : KeyBytes) → a ≡ b → is_eq (key_cmp a b) ≡ true
 key_itself a b e = subst (λ k. is_eq (key_cmp a k) ≡ true) e (ap is_eq (tied_itself key_total a))
 
-pub by_rival : IsStrictWeakOrder (λ (a b : Rival). is_lt (rival_cmp a b))
-by_rival = ranks_by key_total (λ (c : Rival). key_bytes c.key)
-
-swapped_and : (a b : Bool) → (a && b) ≡ (b && a)
-swapped_and true true = refl
-swapped_and true false = refl
-swapped_and false true = refl
-swapped_and false false = refl
-
 ties_are : (x c : Rival) → ties (λ (a b : Rival). is_lt (rival_cmp a b)) x c ≡ is_of_key (key_bytes x.key) c
-ties_are x c = swapped_and (not (is_lt (rival_cmp x c))) (not (is_lt (rival_cmp c x))) ∙ sym (tied_is key_cmp key_total (key_bytes x.key) (key_bytes c.key))
+ties_are x c = and_comm (not (is_lt (rival_cmp x c))) (not (is_lt (rival_cmp c x))) ∙ sym (tied_is key_cmp key_total (key_bytes x.key) (key_bytes c.key))
 
 pub in_order_is : (cs made : List Rival) → IsStable rival_cmp cs made → (x : Rival) → filter (is_of_key (key_bytes x.key)) made ≡ filter (is_of_key (key_bytes x.key)) cs
 in_order_is cs made stable x =

@@ -9,6 +9,7 @@ use Rattle.std.specs.Cmp.Lexicographic.{slice_cmp}
 use Rattle.std.specs.Ordering.{nat_cmp, is_eq, is_lt}
 use Rattle.std.proofs.lemmas.Cmp.{nat_list_cmp_total}
 use Rattle.std.proofs.lemmas.List.Elements.{Contains-append_cases, Contains-append_left, Contains-append_right}
+use Rattle.std.proofs.Math.Bool.{not-not}
 use Rattle.reg_op.specs.Rows.{Row}
 use Rattle.reg_op.specs.Set.{Ascends}
 use Rattle.reg_op.specs.declared.status.Status.TheVariants.{Retired}
@@ -90,15 +91,11 @@ none_put_in set e q = (
   λ h. absurd (none_in h.row h.there),
 )
 
-twice : (b : Bool) → not (not b) ≡ b
-twice true = refl
-twice false = refl
-
 -- inserting the text of r adds nothing exactly if an earlier row that is not retired has it
 pub again_is : (done : List Row) (r : Row) (bytes : List ℕ) (added old : Bool) → added ≡ not old → bytes ≡ r.definition → r.status ≢ Some Retired → IsTrue old ↔ HasText done bytes
     → IsTrue (not added) ↔ ((r.status ≢ Some Retired) × HasText done r.definition)
 again_is done r bytes added old e own stands is =
-    let back : not added ≡ old = ap not e ∙ twice old in (
+    let back : not added ≡ old = ap not e ∙ not-not old in (
       λ yes. (stands, subst (HasText done) own (is.0 (sym back ∙ yes))),
       λ h. back ∙ is.1 (subst (HasText done) (sym own) h.1),
     )

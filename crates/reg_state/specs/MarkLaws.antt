@@ -1,8 +1,7 @@
 -- The join of two sets of least marks has the least marks of their union.
 use Rattle.std.proofs.Common.{◌≡◌, ◌&&◌, Bool, true, false, Option, Some, None, Result, Ok, refl, ap, sym, ◌∙◌, subst}
 use Rattle.std.proofs.lemmas.Bool.{true≢false, and_from, and_parts}
-use Rattle.std.specs.declared.cmp.Ordering.{Ordering}
-use Rattle.std.specs.declared.cmp.Ordering.TheVariants.{Less, Equal, Greater}
+use Rattle.std.specs.declared.cmp.Ordering.TheVariants.{Equal}
 use Rattle.std.specs.Cmp.{IsTotalOrder, then_total, on_total, Equal-is}
 use Rattle.std.specs.Cmp.Lexicographic.{options_total}
 use Rattle.std.specs.Option.{option_cmp}
@@ -12,7 +11,7 @@ use Rattle.reg_op.specs.Set as set
 use Rattle.reg_op.specs.Set.{IsAntisymmetric, contains, union, same_set, contains-empty}
 use Rattle.reg_op.specs.Ids.{Id, id_cmp}
 use Rattle.reg_op.proofs.FiniteLemmas.{union_comm, union_assoc, union_again, union_itself, union-empty, topmost-union, topmost-topmost, contains-topmost}
-use Rattle.reg_op.proofs.OpLemmas.{id_total, id_exact, is_same_chain, is_before_chain, not_before_itself}
+use Rattle.reg_op.proofs.OpLemmas.{id_total, id_exact, is_same_chain, is_before_chain, not_before_itself, both_equal}
 use Rattle.reg_join.specs.Joining.{JoinLaws}
 use Rattle.reg_state.specs.declared.mark.Mark.{Mark}
 use Rattle.reg_state.specs.declared.mark.MarkTarget.{MarkTarget}
@@ -25,11 +24,6 @@ target_total = then_total (on_total (λ t. t.entry) id_total) (on_total (λ t. t
 
 pub mark_total : IsTotalOrder mark_cmp
 mark_total = then_total (on_total (λ m. m.target) target_total) (on_total (λ m. m.id) id_total)
-
-both_equal : (r t : Ordering) → ordering_then r t ≡ Equal → (r ≡ Equal) × (t ≡ Equal)
-both_equal Less t e = cc
-both_equal Equal t e = (refl, e)
-both_equal Greater t e = cc
 
 options_exact : (a b : Option Id) → option_cmp id_cmp a b ≡ Equal → a ≡ b
 options_exact None None e = refl

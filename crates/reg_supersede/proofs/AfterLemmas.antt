@@ -4,8 +4,7 @@ use Rattle.std.proofs.lemmas.Bool.{true≢false, or_cases, or_left, or_right}
 use Rattle.std.proofs.lemmas.List.{map-append}
 use Rattle.std.proofs.lemmas.List.Folds.{list_any-append}
 use Rattle.std.specs.List.{list_any}
-use Rattle.std.specs.Cmp.{tied_itself}
-use Rattle.std.specs.Ordering.{is_eq, eq_by_cmp}
+use Rattle.std.specs.Ordering.{eq_by_cmp}
 use Rattle.reg_op.specs.Set as set
 use Rattle.reg_op.specs.Set.{contains, contains-from_list, contains-union, same_set}
 use Rattle.reg_op.specs.Ids.{Id, is_same}
@@ -21,6 +20,7 @@ use Rattle.reg_office.specs.declared.fault.OfficeFault.{OfficeFault}
 use Rattle.reg_office.specs.Making.{greatest, numbered, objection, objections, else_next, with_op}
 use Rattle.reg_office.proofs.NumberLemmas.{greatest_is, numbers_agree}
 use Rattle.reg_office.proofs.LawLemmas.{is_greatest}
+use Rattle.reg_office.proofs.BodyLemmas.{same_itself}
 
 abbrev pub of_list : List Op → Ops
 of_list os = set.from_list {R = op_cmp} os
@@ -58,9 +58,6 @@ objections_both y (o ∷ ps) bs k =
     ∙ else_both (objection y.ops o.body) (objections (with_op y o) ps) (objections (merged y (state (of_list (o ∷ ps)))) bs)
 
 -- ---- numbers
-
-same_itself : (i : Id) → is_same i i ≡ true
-same_itself i = ap is_eq (tied_itself id_total i)
 
 module _ (r : List ℕ) (note : List ℕ) where
   abbrev has_count : ℕ → List Op → Type 0

@@ -1,7 +1,6 @@
 -- The lines of a list, one line at a time.
-use Rattle.std.proofs.Common.{◌≡◌, ℕ, ◌+◌, ◌<◌, ◌≤◌, false, List, [], ◌∷◌, ◌++◌, append_assoc, append-nil, length, length-drop, map, drop, get_or, refl, sym, ap, ◌∙◌, subst, inl, inr, arith}
+use Rattle.std.proofs.Common.{◌≡◌, ℕ, ◌+◌, false, List, [], ◌∷◌, ◌++◌, append_assoc, append-nil, length, refl, sym, ap, ◌∙◌, subst, inl, inr, arith}
 use Rattle.std.proofs.lemmas.Bool.{true≢false}
-use Rattle.std.proofs.lemmas.List.{drop_more, length-map}
 use Rattle.reg_op.specs.Ids.{Id}
 use Rattle.reg_op.specs.declared.operation.OpBody.{OpBody as Body}
 use Rattle.reg_op.specs.Contents.{Content, IsContent}
@@ -9,12 +8,6 @@ use Rattle.reg_supersede.specs.declared.fault.RefusedLine.{RefusedLine}
 use Rattle.reg_supersede.specs.Lists.{Task, DoesAll, StopsAt}
 use Rattle.reg_supersede.specs.Effects.{after, ids_of, StepsOn, IsStepFault, IsListFault}
 use Rattle.reg_supersede.proofs.AfterLemmas.{merged_none}
-
-pub here : {W : Type 0} (f : W → List ℕ) (ws : List W) (i : ℕ) (d : W) → i < length ws → map f (drop i ws) ≡ f (get_or ws i d) ∷ map f (drop (i + 1) ws)
-here f ws i d h = ap (map f) (drop_more ws i d h)
-
-pub ended : {W : Type 0} (f : W → List ℕ) (ws : List W) (i : ℕ) → length ws ≤ i → length (map f (drop i ws)) ≡ 0
-ended f ws i h = let long = length-drop i ws in length-map (drop i ws) f ∙ omega (arith, long, h)
 
 module _ (t : Task) (x : Content) where
   -- what `rest` does after the effects so far completes what all lines do

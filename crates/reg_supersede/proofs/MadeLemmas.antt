@@ -1,9 +1,7 @@
 -- The pairs of a list that was made are there at the end.
-use Rattle.std.proofs.Common.{◌≡◌, ℕ, ◌+◌, Bool, true, false, ◌||◌, List, [], ◌∷◌, ◌++◌, append_assoc, length, Option, Some, None, Ok, refl, sym, ap, ◌∙◌, subst, inl, inr}
+use Rattle.std.proofs.Common.{◌≡◌, ℕ, ◌+◌, Bool, true, false, ◌||◌, List, [], ◌∷◌, ◌++◌, append_assoc, length, None, refl, sym, ◌∙◌, subst, inl, inr}
 use Rattle.std.specs.Prelude.{if◌then◌else◌}
 use Rattle.std.specs.List.{list_any}
-use Rattle.std.specs.Cmp.{tied_itself}
-use Rattle.std.specs.Ordering.{is_eq}
 use Rattle.std.proofs.lemmas.Bool.{or_left, or_right, and_from}
 use Rattle.std.proofs.lemmas.List.Folds.{list_any-append}
 use Rattle.reg_op.specs.Ids.{Id, is_same}
@@ -11,11 +9,11 @@ use Rattle.reg_op.specs.Operations.{Op, Ops}
 use Rattle.reg_op.specs.declared.operation.OpBody.{OpBody as Body}
 use Rattle.reg_op.specs.Contents.{Content}
 use Rattle.reg_op.specs.Rows.{Row, rows}
-use Rattle.reg_op.proofs.OpLemmas.{id_total}
-use Rattle.reg_office.specs.declared.fault.OfficeFault.{OfficeFault}
-use Rattle.reg_office.specs.Making.{greatest, new_ops, objections, else_next, note_fault, is_spent, made_unless}
+use Rattle.reg_office.specs.Making.{greatest, new_ops, objections, else_next, note_fault, is_spent}
 use Rattle.reg_office.specs.Commands.{Does}
 use Rattle.reg_office.proofs.EffectLemmas.{nothing_against}
+use Rattle.reg_office.proofs.BodyLemmas.{same_itself as same_id}
+use Rattle.reg_office.proofs.NewLemmas.{not_refused}
 use Rattle.reg_keys.specs.Every.{StandsForEvery, StandForEach}
 use Rattle.reg_supersede.specs.declared.pair.Pair.{Pair}
 use Rattle.reg_supersede.specs.declared.fault.RefusedLine.{RefusedLine}
@@ -47,9 +45,6 @@ pub none_lacks : (ops : Ops) (before ps : List Pair) → AllThere ops ps → lac
 none_lacks ops before [] h = refl
 none_lacks ops before (p ∷ ps) (h, t) =
     (λ k. if h k || list_any (is_pair p) before then lacking ops before ps else p ∷ lacking ops (before ++ p ∷ []) ps) ∙ none_lacks ops before ps t
-
-same_id : (i : Id) → is_same i i ≡ true
-same_id i = ap is_eq (tied_itself id_total i)
 
 same_is : (p : Pair) → is_pair p p ≡ true
 same_is p = and_from (is_same p.old p.old) (is_same p.newer p.newer) (same_id p.old) (same_id p.newer)
@@ -97,10 +92,6 @@ later_itself x = record { same = same_itself (rows x.ops); keeps = λ p h. h }
 pub later_chain : (x y z : Content) → IsLater x y → IsLater y z → IsLater x z
 later_chain x y z a b = record { same = same_chain (rows x.ops) (rows y.ops) (rows z.ops) a.same b.same; keeps = λ p h. b.keeps p (a.keeps p h) }
 
-unrefused : (f : Option OfficeFault) (spent : Bool) (os ps : List Op) → made_unless f spent os ≡ Ok ps → f ≡ None
-unrefused None spent os ps h = refl
-unrefused (Some f) spent os ps h = cc
-
 -- the pairs that were not there were made
 module _ (t : Task) (x y : Content) (ps : List Pair) (ids : List Id) (does : Does x t.replica t.note (bodies_of (lacking x.ops [] ps)) y ids) where
   abbrev bs : List Body
@@ -115,7 +106,7 @@ module _ (t : Task) (x y : Content) (ps : List Pair) (ids : List Id) (does : Doe
   pub none_refused : objections x (ops_of x t.replica t.note bs) ≡ None
   none_refused =
       let os : List Op = new_ops x t.replica t.note bs in
-      (nothing_against (note_fault t.note) (objections x os) (unrefused (else_next (note_fault t.note) (objections x os)) (is_spent (greatest t.replica x.seen) (length bs)) os does.ops does.are_made)).1
+      (nothing_against (note_fault t.note) (objections x os) (not_refused (else_next (note_fault t.note) (objections x os)) (is_spent (greatest t.replica x.seen) (length bs)) os does.ops does.are_made)).1
 
   pub still : Keeps x.ops (after t x bs).ops
   still = still_there x t.replica t.note bs are

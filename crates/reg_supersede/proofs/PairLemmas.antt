@@ -3,9 +3,8 @@ use Rattle.std.proofs.Common.{◌≡◌, ℕ, ◌+◌, Bool, true, false, not, �
 use Rattle.std.specs.Prelude.{option_map}
 use Rattle.std.proofs.lemmas.Bool.{true≢false, not-true, and_parts, and_from, or_cases, or_left, or_right, false_from_ne_true}
 use Rattle.std.proofs.lemmas.List.Folds.{list_any-append}
+use Rattle.std.proofs.Math.Bool.{and-false}
 use Rattle.std.specs.List.{list_any}
-use Rattle.std.specs.Cmp.{tied_itself}
-use Rattle.std.specs.Ordering.{is_eq}
 use mathlib.Core.Bool.{or-false}
 use Rattle.reg_op.specs.Set as set
 use Rattle.reg_op.specs.Set.{contains, contains-from_list}
@@ -18,7 +17,7 @@ use Rattle.reg_op.specs.declared.operation.OpBody.TheVariants.{Enter, Supersede,
 use Rattle.reg_op.specs.Contents.{Content}
 use Rattle.reg_op.specs.Kept.{first_dropped}
 use Rattle.reg_op.specs.Status.{enters, retires, is_replaced_by, is_enter, is_retirement, is_supersession}
-use Rattle.reg_op.proofs.OpLemmas.{id_total, op_total, op_exact, is_same_exact, is_same_back, replaces_irreflexive}
+use Rattle.reg_op.proofs.OpLemmas.{op_total, op_exact, is_same_exact, is_same_back, replaces_irreflexive}
 use Rattle.reg_op.proofs.FiniteLemmas.{any-union, member_from_any}
 use Rattle.reg_op.proofs.ContentLemmas.{kept-union_right}
 use Rattle.reg_op.proofs.OneLemmas.{any-from_list}
@@ -28,17 +27,11 @@ use Rattle.reg_state.specs.Runs.{id_at}
 use Rattle.reg_office.specs.Making.{greatest, numbered, objection, objections, with_op}
 use Rattle.reg_office.proofs.EffectLemmas.{chain, nothing_against}
 use Rattle.reg_office.proofs.NumberLemmas.{op_cases}
+use Rattle.reg_office.proofs.BodyLemmas.{same_itself}
 use Rattle.reg_supersede.specs.declared.pair.Pair.{Pair}
 use Rattle.reg_supersede.specs.Lists.{is_there}
 use Rattle.reg_supersede.specs.Effects.{AreSupersessions, has_pair, pair_fault}
 use Rattle.reg_supersede.proofs.AfterLemmas.{of_list, after, ops_of}
-
-pub and_end : (a : Bool) → (a && false) ≡ false
-and_end true = refl
-and_end false = refl
-
-same_itself : (i : Id) → is_same i i ≡ true
-same_itself i = ap is_eq (tied_itself id_total i)
 
 pub supersessions_both : (bs cs : List Body) → AreSupersessions bs → AreSupersessions cs → AreSupersessions (bs ++ cs)
 supersessions_both [] cs h k = k
@@ -60,7 +53,7 @@ is_in e o = is_same e o.id && is_enter o.body
 module _ (r : List ℕ) (note : List ℕ) where
   none_enter : (n : ℕ) (bs : List Body) (e : Id) → AreSupersessions bs → list_any (is_in e) (numbered r n note bs) ≡ false
   none_enter n [] e h = refl
-  none_enter n (Supersede old newer ∷ bs) e h = λ k. and_end (is_same e (id_at r n)) k || none_enter (n + 1) bs e h k
+  none_enter n (Supersede old newer ∷ bs) e h = λ k. and-false (is_same e (id_at r n)) k || none_enter (n + 1) bs e h k
   none_enter n (Enter text ∷ bs) e h = absurd h
   none_enter n (Retire entry ∷ bs) e h = absurd h
 
@@ -111,7 +104,7 @@ module _ (x : Content) (r note : List ℕ) (bs : List Body) (are : AreSupersessi
   not_entered p e = there_is p ∙ ap (λ b. b && (not (retires x.ops p.old) && (any (supersession p.old p.newer) x.ops || has_pair bs p.old p.newer))) e
 
   pub off_already : (p : Pair) → retires x.ops p.old ≡ true → is_there here p ≡ false
-  off_already p e = there_is p ∙ (λ k. enters x.ops p.old && (not (e k) && (any (supersession p.old p.newer) x.ops || has_pair bs p.old p.newer))) ∙ and_end (enters x.ops p.old)
+  off_already p e = there_is p ∙ (λ k. enters x.ops p.old && (not (e k) && (any (supersession p.old p.newer) x.ops || has_pair bs p.old p.newer))) ∙ and-false (enters x.ops p.old)
 
   pub there_now : (p : Pair) → enters x.ops p.old ≡ true → retires x.ops p.old ≡ false → is_there here p ≡ (any (supersession p.old p.newer) x.ops || has_pair bs p.old p.newer)
   there_now p e f = there_is p ∙ (λ k. e k && (not (f k) && (any (supersession p.old p.newer) x.ops || has_pair bs p.old p.newer)))
@@ -176,7 +169,7 @@ module _ (y : Content) (o : Op) (old newer : Id) (is : o.body ≡ Supersede old 
   pub with_entered : (e : Id) → enters (with_op y o).ops e ≡ enters y.ops e
   with_entered e =
       ap (λ s. enters s e) (kept-union_right y.ops (one o)) ∙ enters-kept two e ∙ two_any (is_in e)
-      ∙ ap (λ b. enters y.ops e || (is_same e o.id && is_enter b)) is ∙ ap (λ b. enters y.ops e || b) (and_end (is_same e o.id)) ∙ or-false (enters y.ops e)
+      ∙ ap (λ b. enters y.ops e || (is_same e o.id && is_enter b)) is ∙ ap (λ b. enters y.ops e || b) (and-false (is_same e o.id)) ∙ or-false (enters y.ops e)
 
   pub with_retired : (e : Id) → retires (with_op y o).ops e ≡ retires y.ops e
   with_retired e = ap (λ s. retires s e) (kept-union_right y.ops (one o)) ∙ retires-kept two e ∙ two_off e

@@ -9,9 +9,9 @@ use Rattle.reg_op.specs.Set.{contains, contains-items, contains-from_list}
 use Rattle.reg_op.specs.Ids.{Id, is_before}
 use Rattle.reg_op.specs.Lists.{has}
 use Rattle.reg_op.specs.Kept.{entering}
-use Rattle.reg_op.specs.Operations.{Op, Ops, kept, replaces_body}
+use Rattle.reg_op.specs.Operations.{Op, Ops, kept}
 use Rattle.reg_op.specs.declared.operation.OpBody.{OpBody as Body}
-use Rattle.reg_op.specs.declared.operation.OpBody.TheVariants.{Enter, Supersede, Retire}
+use Rattle.reg_op.specs.declared.operation.OpBody.TheVariants.{Enter}
 use Rattle.reg_op.specs.Contents.{Content}
 use Rattle.reg_op.specs.Rows.{Row, rows, rows_at, newer_of}
 use Rattle.reg_op.specs.Status.{enters, retires, supersedes, status}
@@ -25,6 +25,7 @@ use Rattle.reg_report.proofs.PairLemmas.{it_enters}
 use Rattle.reg_report.proofs.RowLemmas.{row_status}
 use Rattle.reg_office.specs.Making.{greatest}
 use Rattle.reg_office.proofs.NumberLemmas.{op_cases}
+use Rattle.reg_office.proofs.NewLemmas.{over_enter}
 use Rattle.reg_supersede.specs.Effects.{AreSupersessions}
 use Rattle.reg_supersede.proofs.AfterLemmas.{of_list, after, ops_of}
 use Rattle.reg_supersede.proofs.PairLemmas.{kept_is, retired, each_is}
@@ -75,11 +76,6 @@ rows_too s z same more r h =
 
 -- ---- after supersessions
 
-not_replaced : (before : Bool) (p : Body) (text : List ℕ) → replaces_body before p (Enter text) ≡ true → ⊥
-not_replaced before (Enter t) text h = true≢false (sym h)
-not_replaced before (Supersede old newer) text h = true≢false (sym h)
-not_replaced before (Retire entry) text h = true≢false (sym h)
-
 module _ (x : Content) (r note : List ℕ) (bs : List Body) (are : AreSupersessions bs) where
   abbrev both : Ops
   both = set.union x.ops (of_list (ops_of x r note bs))
@@ -94,7 +90,7 @@ module _ (x : Content) (r note : List ℕ) (bs : List Body) (are : AreSupersessi
   stays_entered i text why h =
       subst (λ s. contains s (entering i text why) ≡ true) (sym is_kept)
       (kept_has both (entering i text why) (union_left x.ops (of_list (ops_of x r note bs)) (entering i text why) h)
-      (λ p there over. not_replaced (is_before p.id i) p.body text over))
+      (λ p there over. over_enter (is_before p.id i) p.body text over))
 
   was_entered : (i : Id) (text why : List ℕ) → contains here (entering i text why) ≡ true → contains x.ops (entering i text why) ≡ true
   was_entered i text why h =

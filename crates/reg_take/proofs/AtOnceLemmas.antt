@@ -12,6 +12,7 @@ use Rattle.reg_op.specs.Contents.{Content, nothing, joined, IsContent}
 use Rattle.reg_op.specs.Pieces.{Piece, PieceRefusal, joined_piece}
 use Rattle.reg_state.specs.RegisterLaws.{register_laws}
 use Rattle.reg_tree.specs.Chain.{with_pieces}
+use Rattle.reg_tree.proofs.Held.{stays}
 use Rattle.reg_commands.specs.Merge.{begun}
 use Rattle.reg_take.specs.declared.files.Arrival.{Arrival}
 use Rattle.reg_take.specs.declared.files.Arrival.TheVariants as arrival
@@ -19,7 +20,7 @@ use Rattle.reg_take.specs.declared.taking.TakePhase.TheVariants as phase
 use Rattle.reg_take.specs.declared.taking.Taking.{Taking}
 use Rattle.reg_take.specs.Taken.{Progress, Shows, after_register, after_piece, each_taken}
 use Rattle.reg_take.specs.AtOnce.{registers_in, pieces_in}
-use Rattle.reg_take.proofs.LawLemmas.{refused_joined, refused_pieces}
+use Rattle.reg_take.proofs.LawLemmas.{refused_joined}
 
 registers_before : (a : Arrival) (gave : List Arrival) → registers_in (a ∷ gave) ≡ registers_in (a ∷ []) ++ registers_in gave
 registers_before (arrival.Register z) gave = refl
@@ -71,7 +72,7 @@ pieces_from : (t : Progress) (i : ℕ) (p : Piece) (gave : List Arrival) (y : Co
     → ((u : Progress) → with_pieces (Ok u.content) (pieces_in gave) ≡ Ok y → Ends u y (each_taken phase.Pieces u (i + 1) gave))
     → (r : Result Content PieceRefusal) → with_pieces r (pieces_in gave) ≡ Ok y → Ends t y (each_taken phase.Pieces (after_piece t i p r) (i + 1) gave)
 pieces_from t i p gave y others (Ok x) h = others (after_piece t i p (Ok x)) h
-pieces_from t i p gave y others (Err why) h = absurd (never (sym (refused_pieces why (pieces_in gave)) ∙ h))
+pieces_from t i p gave y others (Err why) h = absurd (never (sym (stays why (pieces_in gave)) ∙ h))
   where
     never : ◌≡◌ {A = Result Content PieceRefusal} (Err why) (Ok y) → ⊥
     never e = absurd (cc)

@@ -1,7 +1,7 @@
 -- Reading the next of some files, after those before it are read.
-use Rattle.std.proofs.Common.{◌≡◌, ◌∷◌, ◌++◌, [], Bool, true, false, List, ℕ, ◌+◌, ◌<◌, ◌≤◌, zero, suc, length, map, take, drop, get_or, slice_set, refl, ap, sym, subst, arith, inl, inr}
-use Rattle.std.proofs.lemmas.List.{take_all, length-map}
+use Rattle.std.proofs.Common.{◌≡◌, ◌∷◌, ◌++◌, [], Bool, true, false, List, ℕ, ◌+◌, ◌<◌, zero, suc, length, map, take, drop, get_or, slice_set, refl, ap, sym, subst, arith, inl, inr}
 use Rattle.std.proofs.lemmas.Bool.{both_ways}
+use Rattle.std.proofs.Math.Numerals.{suc-eq-add-one}
 use Rattle.byte_io.specs.Device.{SourceState}
 use Rattle.reg_file.specs.Parts.{FindsPart, IsPartReadFromFault}
 use Rattle.reg_file.specs.declared.fault.ReadFileFault.{ReadFileFault}
@@ -52,9 +52,6 @@ pub of_file : (number : ℕ) (o n : FileState) (f : CliFault) → (f ≡ cli.Mem
 of_file number o n f other (inl memory) = absurd (other memory)
 of_file number o n f other (inr fault) = fault
 
-next : (i : ℕ) → suc i ≡ i + 1
-next i = omega arith
-
 module _ {S : Type 0} (st : S → FileState) (how : TakeOptions) where
   first : (w n : S) (ws ns : List S) → map st (n ∷ ns) ≡ map st (w ∷ ws) → st n ≡ st w
   first w n ws ns e = ap (head_of (st n)) e
@@ -72,7 +69,7 @@ module _ {S : Type 0} (st : S → FileState) (how : TakeOptions) where
 
   pub behind : (was now : List S) (i : ℕ) (s : S) → length now ≡ length was → drop i (map st now) ≡ drop i (map st was)
       → drop (i + 1) (map st (slice_set now i s)) ≡ drop (i + 1) (map st was)
-  behind was now i s size back = subst (λ j. drop j (map st (slice_set now i s)) ≡ drop j (map st was)) (next i) (behind_suc was now i s size back)
+  behind was now i s size back = subst (λ j. drop j (map st (slice_set now i s)) ≡ drop j (map st was)) (suc-eq-add-one i) (behind_suc was now i s size back)
 
   arrived_suc : (was now : List S) (number i k : ℕ) (o s : S) (gave : List Arrival) (a : Arrival) → i < length was → length now ≡ length was
       → AreArrivals how number (take i (map st was)) (take i (map st now)) gave → drop i (map st now) ≡ drop i (map st was) → k ≡ number + i → IsArrival how k (st (get_or now i o)) (st s) a
@@ -91,7 +88,7 @@ module _ {S : Type 0} (st : S → FileState) (how : TakeOptions) where
       → AreArrivals how number (take i (map st was)) (take i (map st now)) gave → drop i (map st now) ≡ drop i (map st was) → k ≡ number + i → IsArrival how k (st (get_or now i o)) (st s) a
       → bs ≡ gave ++ a ∷ [] → AreArrivals how number (take (i + 1) (map st was)) (take (i + 1) (map st (slice_set now i s))) bs
   arrived_next was now number i k o s gave bs a within size front back at is pushed =
-      subst (λ j. AreArrivals how number (take j (map st was)) (take j (map st (slice_set now i s))) bs) (next i)
+      subst (λ j. AreArrivals how number (take j (map st was)) (take j (map st (slice_set now i s))) bs) (suc-eq-add-one i)
       (subst (λ ks. AreArrivals how number (take (suc i) (map st was)) (take (suc i) (map st (slice_set now i s))) ks) (sym pushed) (arrived_suc was now number i k o s gave a within size front back at is))
 
   stops_at : (was now : List S) (number i k : ℕ) (o s : S) (gave : List Arrival) (f : CliFault) → how.keep_going ≡ false → i < length was → length now ≡ length was
@@ -112,13 +109,6 @@ module _ {S : Type 0} (st : S → FileState) (how : TakeOptions) where
       → IsStopped how number (map st was) (map st (slice_set now i s)) f
   last_stops was now number i k o s gave f within size front back at (inl memory) = inl memory
   last_stops was now number i k o s gave f within size front back at (inr (dry, fault)) = inr (dry, stops_at was now number i k o s gave f dry within size front back at fault)
-
-  -- after the last file, all have arrived
-  pub arrived_all : (was now : List S) (number i : ℕ) (gave : List Arrival) → length was ≤ i → length now ≡ length was
-      → AreArrivals how number (take i (map st was)) (take i (map st now)) gave → AreArrivals how number (map st was) (map st now) gave
-  arrived_all was now number i gave past size h =
-      subst (λ os. AreArrivals how number os (map st now) gave) (take_all i (map st was) (omega (arith, length-map was st, past)))
-      (subst (λ ns. AreArrivals how number (take i (map st was)) ns gave) (take_all i (map st now) (omega (arith, length-map now st, size, past))) h)
 
 -- what arrives of a part is what its file gave
 pub screened_arrival : (how : TakeOptions) (k : ℕ) (o n : FileState) (p : Part) (a : Arrival) → FindsPart o.source n.source p → IsScreened (judged how) (brought how.offices.items p) a → IsArrival how k o n a

@@ -17,6 +17,7 @@ use Rattle.reg_take.specs.declared.taking.TakePhase.{TakePhase}
 use Rattle.reg_take.specs.declared.taking.TakePhase.TheVariants as phase
 use Rattle.reg_take.specs.Taken.{Progress, fault_of, left_out, leaving, starting, after_register, after_piece, taken, each_taken, sorted, all_taken, parts_given}
 use Rattle.reg_take.proofs.TakenLemmas.{each_keeps}
+use Rattle.reg_tree.proofs.Held.{stays}
 
 -- ---- the first file that is left out remains the first
 
@@ -67,10 +68,6 @@ pub refused_joined : (id : Id) (xs : List Content) → all_joined joined (Err id
 refused_joined id [] = refl
 refused_joined id (x ∷ xs) = refused_joined id xs
 
-pub refused_pieces : (r : PieceRefusal) (ps : List Piece) → with_pieces (Err r) ps ≡ Err r
-refused_pieces r [] = refl
-refused_pieces r (p ∷ ps) = refused_pieces r ps
-
 is_refusal : (i : ℕ) (r : PieceRefusal) (q : Result Content PieceRefusal) → q ≡ Err r → IsUnjoined q (fault_of (left_out i r))
 is_refusal i (Clash id) q e = e
 is_refusal i (Basis id) q e = e
@@ -101,7 +98,7 @@ one_piece : (t : Progress) (i : ℕ) (p : Piece) (ps : List Part)
     → Walked (each_taken phase.Pieces (after_piece t i p r) (i + 1) (parts_given ps)).left (each_taken phase.Pieces (after_piece t i p r) (i + 1) (parts_given ps)).content (with_pieces r (pieces ps))
 one_piece t i p ps others (Ok y) h = others (after_piece t i p (Ok y)) h
 one_piece t i p ps others (Err r) h =
-    inr (i, r, walk_begins (left_out i r) phase.Pieces (leaving t (left_out i r)) (i + 1) (parts_given ps) (first_begins (left_out i r) t.left h), refused_pieces r (pieces ps))
+    inr (i, r, walk_begins (left_out i r) phase.Pieces (leaving t (left_out i r)) (i + 1) (parts_given ps) (first_begins (left_out i r) t.left h), stays r (pieces ps))
 
 walk_pieces : (t : Progress) (i : ℕ) (ps : List Part) → t.left ≡ []
     → Walked (each_taken phase.Pieces t i (parts_given ps)).left (each_taken phase.Pieces t i (parts_given ps)).content (with_pieces (Ok t.content) (pieces ps))
@@ -139,7 +136,7 @@ module _ (x : Content) (ps : List Part) (is : IsContent x) where
   then_pieces : (t : Progress) (r : Result Content PieceRefusal) → Walked t.left t.content r → Walked (after t).left (after t).content (with_pieces r (pieces ps))
   then_pieces t r (inl (none, e)) = subst (λ q. Walked (after t).left (after t).content (with_pieces q (pieces ps))) (sym e) (walk_pieces t 0 ps none)
   then_pieces t r (inr (i, why, begins, e)) =
-      inr (i, why, walk_begins (left_out i why) phase.Pieces t 0 (parts_given ps) begins, ap (λ q. with_pieces q (pieces ps)) e ∙ refused_pieces why (pieces ps))
+      inr (i, why, walk_begins (left_out i why) phase.Pieces t 0 (parts_given ps) begins, ap (λ q. with_pieces q (pieces ps)) e ∙ stays why (pieces ps))
 
   total : join_of (part.Register x ∷ ps) ≡ with_pieces (begun (all_joined joined (Ok x) (registers ps))) (pieces ps)
   total = ap (λ r. with_pieces (begun (all_joined joined r (registers ps))) (pieces ps)) (register_laws.neutral x is)

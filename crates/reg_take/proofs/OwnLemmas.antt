@@ -1,11 +1,8 @@
 -- Whatever is taken, the numbers of an office are those that it gave.
-use Rattle.std.proofs.Common.{◌≡◌, ◌∷◌, [], Bool, true, false, not, List, ℕ, ◌+◌, ◌≤◌, zero, suc, nat_lt, Option, Some, None, Result, Ok, Err, slice_get, refl, sym, ap, subst, ◌∙◌, inl, inr, arith}
-use Rattle.std.proofs.lemmas.Bool.Decides.{nat_tests}
-use Rattle.std.proofs.lemmas.Bool.{true≢false, or_cases, or_left, or_right, and_from, cases_Bool}
-use Rattle.std.specs.Cmp.{tied_itself}
-use Rattle.std.specs.Ordering.{is_eq}
+use Rattle.std.proofs.Common.{◌≡◌, ◌∷◌, [], Bool, true, false, not, List, ℕ, ◌+◌, ◌≤◌, zero, suc, nat_lt, Option, Some, None, Result, Ok, Err, slice_get, refl, sym, ap, subst, ◌∙◌, inl, inr}
+use Rattle.std.proofs.lemmas.Bool.{true≢false, or_cases, or_left, or_right, and_from, cases_Bool, ltb-false}
 use Rattle.reg_op.specs.Set.{contains, union, contains-union}
-use Rattle.reg_op.specs.Ids.{Id, is_same}
+use Rattle.reg_op.specs.Ids.{Id}
 use Rattle.reg_op.specs.Finite.{any}
 use Rattle.reg_op.specs.Operations.{Op}
 use Rattle.reg_op.specs.Contents.{Content, joined, merged}
@@ -18,6 +15,7 @@ use Rattle.reg_journal.specs.Standing.{is_known, tells_forged, IsHonest, Admits}
 use Rattle.reg_journal.proofs.NumbersLemmas.{numbers_in}
 use Rattle.reg_file.specs.declared.parts.Part.{Part}
 use Rattle.reg_file.specs.declared.parts.Part.TheVariants as part
+use Rattle.reg_file.proofs.BodyLemmas.{same_itself}
 use Rattle.reg_commands.specs.Merge.{begun}
 use Rattle.reg_take.specs.declared.options.TakeOptions.{TakeOptions}
 use Rattle.reg_take.specs.declared.files.Arrival.{Arrival}
@@ -32,12 +30,6 @@ use Rattle.reg_take.specs.Take.{Takes}
 use Rattle.reg_take.specs.Own.{HasOnlyGiven}
 use Rattle.reg_take.proofs.TakenLemmas.{joined_is, piece_is}
 
-same_itself : (i : Id) → is_same i i ≡ true
-same_itself i = ap is_eq (tied_itself id_total i)
-
-not_above : (m n : ℕ) → nat_lt m n ≡ false → n ≤ m
-not_above m n h = grind (arith, nat_tests)
-
 module _ (f : Journal) where
   abbrev Has : Content → Type 0
   Has x = HasOnlyGiven f x
@@ -47,7 +39,7 @@ module _ (f : Journal) where
   number_given : (x : Content) (i : Id) → IsHonest f x → is_own f.replica i ≡ true → contains x.seen i ≡ true → i.count ≤ f.last
   number_given x i is own there = elim (cases_Bool (nat_lt f.last i.count)) [
     | inl a ↦ absurd (true≢false (sym (and_from _ _ own (or_left _ _ (and_from _ _ a there))) ∙ is i))
-    | inr b ↦ not_above f.last i.count b
+    | inr b ↦ ltb-false f.last i.count b
   ]
 
   operation_known : (x : Content) (o : Op) → IsHonest f x → is_own f.replica o.id ≡ true → contains x.ops o ≡ true → is_known f.made.ops o ≡ true

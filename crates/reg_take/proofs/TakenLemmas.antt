@@ -1,5 +1,6 @@
 -- Files are joined to a content in four walks.
-use Rattle.std.proofs.Common.{◌≡◌, ◌↔◌, ◌∷◌, ◌++◌, [], true, false, List, ℕ, ◌+◌, ◌≤◌, zero, suc, length, drop, arith, Result, Ok, Err, Option, None, Some, refl, sym, ap, subst, ◌∙◌}
+use Rattle.std.proofs.Common.{◌≡◌, ◌↔◌, ◌∷◌, ◌++◌, [], true, false, List, ℕ, ◌+◌, ◌≤◌, length, drop, Result, Ok, Err, Option, None, Some, refl, sym, ap, subst, ◌∙◌}
+use Rattle.std.proofs.lemmas.List.{drop_all}
 use Rattle.std.specs.Prelude.{IfOk}
 use Rattle.reg_join.specs.Joining.{all_joined, joined_with}
 use Rattle.reg_op.specs.Ids.{Id}
@@ -55,16 +56,10 @@ pub one_taken : (w : TakePhase) (t : Progress) (i : ℕ) (a : Arrival) (gave : L
     → each_taken w t i (drop i gave) ≡ each_taken w (taken w t i a) (i + 1) (drop (i + 1) gave)
 one_taken w t i a gave e = ap (each_taken w t i) e
 
-drop_past : {A : Type 0} (i : ℕ) (all : List A) → length all ≤ i → drop i all ≡ []
-drop_past zero [] past = refl
-drop_past zero (a ∷ all) past = absurd (omega (arith, past))
-drop_past (suc i) [] past = refl
-drop_past (suc i) (a ∷ all) past = drop_past i all (omega (arith, past))
-
 -- after the last file, the walk is complete
 pub walked : (w : TakePhase) (now t : Progress) (i : ℕ) (gave : List Arrival) (taking : Taking) → length gave ≤ i → each_taken w now i (drop i gave) ≡ each_taken w t 0 gave → Shows taking now
     → Shows taking (each_taken w t 0 gave)
-walked w now t i gave taking past e shows = subst (Shows taking) (sym (ap (each_taken w now i) (drop_past i gave past)) ∙ e) shows
+walked w now t i gave taking past e shows = subst (Shows taking) (sym (ap (each_taken w now i) (drop_all i gave past)) ∙ e) shows
 
 -- ---- a property that each step keeps is kept by a walk
 

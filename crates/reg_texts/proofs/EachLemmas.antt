@@ -1,5 +1,5 @@
 -- The concatenation of what each element of a list gives, one element at a time.
-use Rattle.std.proofs.Common.{◌≡◌, ◌↔◌, List, [], ◌∷◌, ◌++◌, length, map, refl, sym, arith, append_assoc, append-nil, subst, inl, inr}
+use Rattle.std.proofs.Common.{◌≡◌, ◌↔◌, List, [], ◌∷◌, ◌++◌, refl, sym, append_assoc, append-nil, subst, inl, inr}
 use Rattle.std.specs.List.{Contains}
 use Rattle.std.proofs.lemmas.List.Elements.{Contains-append_left, Contains-append_right, Contains-append_cases}
 use Rattle.reg_report.proofs.ConflictLemmas.{none_in, in_cons, in_head, in_tail}
@@ -35,14 +35,6 @@ module _ {X Y : Type 0} (Gives : X → List Y → Type 0) where
       | inl same ↦ Contains-append_left mine later y ((known z mine gives y).1 (subst (λ w. Has w y) same has))
       | inr after ↦ Contains-append_right mine later y (gives_all xs later rest y x after has)
     ])
-
-pub none_left : {X Y : Type 0} (f : X → Y) (xs : List X) → length xs ≡ 0 → map f xs ≡ []
-none_left f [] e = refl
-none_left f (x ∷ xs) e = absurd (omega (arith, e))
-
-pub nothing_left : {X : Type 0} (xs : List X) → length xs ≡ 0 → xs ≡ []
-nothing_left [] e = refl
-nothing_left (x ∷ xs) e = absurd (omega (arith, e))
 
 pub alike : {X : Type 0} (R : X → X → X → Type 0) (a b c d e : X) → a ≡ c → b ≡ d → R a b e → R c d e
 alike R a b c d e p q r = subst (λ y. R c y e) q (subst (λ x. R x b e) p r)

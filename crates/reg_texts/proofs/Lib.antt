@@ -8,3 +8,4 @@ mod HeadLemmas
 mod LawLemmas
 mod GivenLemmas
 mod LeftLemmas
+pub use Rattle.reg_keys.proofs.NamedLemmas

@@ -4,12 +4,11 @@ use Rattle.std.specs.List.{list_any, prefix_len}
 use Rattle.std.specs.Str.{bytes_eq}
 use Rattle.std.specs.Cmp.Lexicographic.{same_text}
 use Rattle.std.proofs.lemmas.List.{take-map, drop-map}
+use Rattle.std.proofs.Math.Numerals.{one-add}
+use Rattle.std.proofs.Math.Bool.{or-true}
 use Rattle.reg_texts.specs.declared.saying.Saying.{Saying}
 use Rattle.reg_texts.specs.Said.{Said, said}
 use Rattle.reg_texts.specs.Listing.{Run, IsBlock, IsListing, AreBlocks, runs, before_runs, is_about, both_about}
-
-next : (n : ℕ) → 1 + n ≡ suc n
-next n = omega arith
 
 -- the runs of s ∷ ss: s with the longest prefix of ss about its text, then the runs of the suffix after that
 abbrev pub first_run : Said → List Said → List Run
@@ -25,7 +24,7 @@ runs_first s (t ∷ ts) =
       | true ↦ λ e.
           let one : prefix_len (is_about t) ts ≡ prefix_len (is_about s) ts = ap (λ (x : List ℕ). prefix_len (λ (u : Said). bytes_eq x u.text) ts) (sym (same_text s.text t.text (sym e))) in
           (λ j. record { first = s; others = t ∷ take (one j) ts } ∷ runs (drop (one j) ts))
-          ∙ (λ j. record { first = s; others = take (sym (next (prefix_len (is_about s) ts)) j) (t ∷ ts) } ∷ runs (drop (sym (next (prefix_len (is_about s) ts)) j) (t ∷ ts)))
+          ∙ (λ j. record { first = s; others = take (sym (one-add (prefix_len (is_about s) ts)) j) (t ∷ ts) } ∷ runs (drop (sym (one-add (prefix_len (is_about s) ts)) j) (t ∷ ts)))
       | false ↦ λ e. ap (λ rs. record { first = s; others = [] } ∷ rs) (sym (runs_first t ts))
     ] refl)
 
@@ -62,11 +61,7 @@ six t K A S B P C k1 k2 k3 k4 k5 k6 e1 e2 e3 e4 e5 e6 =
     ∙ append_assoc ((((t ++ K) ++ A) ++ S) ++ B) P C ∙ append_assoc (((t ++ K) ++ A) ++ S) B (P ++ C) ∙ append_assoc ((t ++ K) ++ A) S (B ++ (P ++ C))
     ∙ append_assoc (t ++ K) A (S ++ (B ++ (P ++ C))) ∙ append_assoc t K (A ++ (S ++ (B ++ (P ++ C))))
 
-or_true : (a : Bool) → (a || true) ≡ true
-or_true true = refl
-or_true false = refl
-
 pub any_at : (p : Said → Bool) (xs : List Saying) (i : ℕ) (d : Saying) → i < length xs → p (said (get_or xs i d)) ≡ true → list_any p (map said xs) ≡ true
 any_at p [] i d h e = absurd (omega (arith, h))
 any_at p (x ∷ xs) zero d h e = ap (λ b. b || list_any p (map said xs)) e
-any_at p (x ∷ xs) (suc i) d h e = ap (λ b. p (said x) || b) (any_at p xs i d (omega (arith, h)) e) ∙ or_true (p (said x))
+any_at p (x ∷ xs) (suc i) d h e = ap (λ b. p (said x) || b) (any_at p xs i d (omega (arith, h)) e) ∙ or-true (p (said x))

@@ -9,13 +9,13 @@ use Rattle.std.specs.Option.{option_cmp, option_eq}
 use Rattle.std.specs.Ordering.{nat_cmp, bool_cmp, ordering_then}
 use Rattle.std.specs.Str.{bytes_eq}
 use Rattle.std.specs.declared.cmp.Ordering.{Ordering}
-use Rattle.std.specs.declared.cmp.Ordering.TheVariants.{Less, Equal, Greater}
+use Rattle.std.specs.declared.cmp.Ordering.TheVariants.{Equal}
 use Rattle.std.proofs.lemmas.Bool.{and_from, and_parts}
 use Rattle.std.proofs.lemmas.Cmp.{nat_list_cmp_total}
 use Rattle.std.proofs.lemmas.List.Sorted.{Contains-permutation, IsPermutation-sym, IsPermutation-map}
 use Rattle.std.proofs.lemmas.Slice.Eq.{bytes_eq-Decides}
 use Rattle.reg_op.specs.Set.{IsAntisymmetric, Ascends}
-use Rattle.reg_op.proofs.OpLemmas.{bytes_exact}
+use Rattle.reg_op.proofs.OpLemmas.{bytes_exact, both_equal}
 use Rattle.reg_report.specs.Conflicts.{KeyBytes, key_cmp}
 use Rattle.reg_report.proofs.ConflictLemmas.{key_total, key_exact}
 use Rattle.reg_report.specs.declared.key.KeyText.{KeyText}
@@ -29,11 +29,6 @@ pub said_total : IsTotalOrder said_cmp
 said_total =
     then_total (on_total (λ (s : Said). s.key) key_total)
     (then_total (on_total (λ (s : Said). s.text) nat_list_cmp_total) (then_total (on_total (λ (s : Said). s.superseded) bool_cmp_total) (on_total (λ (s : Said). s.by) (options_total key_total))))
-
-both_equal : (r t : Ordering) → ordering_then r t ≡ Equal → (r ≡ Equal) × (t ≡ Equal)
-both_equal Less t e = cc
-both_equal Equal t e = (refl, e)
-both_equal Greater t e = cc
 
 bool_exact : (a b : Bool) → bool_cmp a b ≡ Equal → a ≡ b
 bool_exact true true e = refl

@@ -1,7 +1,8 @@
 -- Commands with tests of ids as commands with relations, and the commands of an office.
-use Rattle.std.proofs.Common.{◌≡◌, ℕ, true, false, Some, arith}
+use Rattle.std.proofs.Common.{◌≡◌, ℕ, true, Some, arith}
 use Rattle.std.specs.Prelude.{◌+◌, ◌<◌, ◌≤◌, nat_lt, nat_le, ◌&&◌}
 use Rattle.std.proofs.lemmas.Bool.Decides.{nat_tests}
+use Rattle.std.proofs.lemmas.Bool.{le-leb, lt-leb, leb-true}
 use Rattle.reg_writers.specs.Path.{Stage, Begins, HasRead, Writes, IsSynced, HasLocked, Keeps, FoundSame, Withdraws, Replaced, HasPrinted, Ended}
 use Rattle.reg_writers.specs.Writers.{Commands, OnlyAdd, gave}
 use Rattle.reg_writers.specs.Desk.{Office, IsRead, numbers, given_up_to}
@@ -35,26 +36,17 @@ gave_many c k Ended i g = cc
 tests : (m b n : ℕ) → (nat_lt m n && nat_le n b) ≡ true → (m < n) × (n ≤ b)
 tests m b n h = (grind (arith, nat_tests), grind (arith, nat_tests))
 
-is_le : (m n : ℕ) → m ≤ n → nat_le m n ≡ true
-is_le m n h = grind (arith, nat_tests)
-
-is_not_le : (m n : ℕ) → n < m → nat_le m n ≡ false
-is_not_le m n h = grind (arith, nat_tests)
-
-of_le : (m n : ℕ) → nat_le m n ≡ true → m ≤ n
-of_le m n h = grind (arith, nat_tests)
-
 pub numbers_add : (o : Office) → IsRead o → OnlyAdd (numbers o)
 numbers_add o reads = record {
   grows = λ k x i seen.
       let e = reads (given_up_to o k x + o.wants k) in
-      let le = of_le i (o.last x) seen in
-      is_le i (o.last (Some (o.file (given_up_to o k x + o.wants k)))) (rw e (omega arith));
+      let le = leb-true i (o.last x) seen in
+      le-leb i (o.last (Some (o.file (given_up_to o k x + o.wants k)))) (rw e (omega arith));
   not_before = λ k x i given.
       let t = tests (given_up_to o k x) (given_up_to o k x + o.wants k) i given in
-      is_not_le i (o.last x) (omega arith);
+      lt-leb i (o.last x) (omega arith);
   seen_then = λ k x i given.
       let e = reads (given_up_to o k x + o.wants k) in
       let t = tests (given_up_to o k x) (given_up_to o k x + o.wants k) i given in
-      is_le i (o.last (Some (o.file (given_up_to o k x + o.wants k)))) (rw e t.1);
+      le-leb i (o.last (Some (o.file (given_up_to o k x + o.wants k)))) (rw e t.1);
 }

@@ -1,5 +1,6 @@
 -- Each call of a place is an event of the model.
 use Rattle.std.proofs.Common.{◌≡◌, ℕ, Bool, true, false, List, [], ◌∷◌, length, take, take_all, le_refl, Option, Some, None, Ok, Err, IsSome, refl, sym, ◌∙◌, ap, subst, cond}
+use Rattle.std.proofs.lemmas.Bool.{false_from_ne_true}
 use Rattle.std.specs.declared.result.Result.{Result}
 use Rattle.std.specs.Io.KnownBytes.{Appends}
 use lib.Pointwise.{bytes_decides}
@@ -79,12 +80,8 @@ syncing {T} {E} change w k x f g r t led at full ok m =
 is_same_as : (out : Content) (read : List ℕ) → out ≡ Some read → is_same out (Some read) ≡ true
 is_same_as out read e = subst (λ o. is_same o (Some read) ≡ true) (sym e) ((bytes_decides read read).1 refl)
 
-is_false : (b : Bool) → (b ≡ true → ⊥) → b ≡ false
-is_false true never = absurd (never refl)
-is_false false never = refl
-
 is_other : (out : Content) (read : List ℕ) → (out ≡ Some read → ⊥) → is_same out (Some read) ≡ false
-is_other out read never = is_false (is_same out (Some read)) (λ e. never (same_content out (Some read) e))
+is_other out read never = false_from_ne_true (is_same out (Some read)) (λ e. never (same_content out (Some read) e))
 
 looked : (change : ℕ → Content → List ℕ) (w : World) (k : ℕ) (read : List ℕ) (f g : Files) (same : Bool)
     → IsAt w k (IsSynced (Some read)) f → g.stands ≡ f.stands → g.beside ≡ f.beside → is_same w.stands (Some read) ≡ same

@@ -1,15 +1,13 @@
 -- A command on the register of a file only adds to its seen ids.
-use Rattle.std.proofs.Common.{◌≡◌, ℕ, ◌<◌, Bool, true, false, List, [], ◌∷◌, map, length, Some, None, Ok, Contains, zero, suc, refl, sym, ap, ◌∙◌, subst, inl, inr, arith}
+use Rattle.std.proofs.Common.{◌≡◌, ℕ, ◌<◌, Bool, true, false, List, [], ◌∷◌, map, length, Some, None, Ok, Contains, zero, suc, refl, sym, ◌∙◌, subst, inl, inr, arith}
 use Rattle.std.proofs.lemmas.Bool.{or_left, or_right, true≢false}
 use Rattle.std.proofs.lemmas.List.Elements.{Contains-append_cases}
-use Rattle.std.specs.Cmp.{tied_itself}
-use Rattle.std.specs.Ordering.{is_eq, eq_by_cmp}
 use Rattle.std.specs.List.{slice_index_or}
 use Rattle.reg_writers.specs.Path.{Content as File, Stage, Begins, HasRead, Writes, IsSynced, HasLocked, Keeps, FoundSame, Withdraws, Replaced, HasPrinted, Ended}
 use Rattle.reg_writers.proofs.Kept.{Many, OnlyAdds, Gave}
 use Rattle.reg_op.specs.Set as set
 use Rattle.reg_op.specs.Ids.{Id, Ids}
-use Rattle.reg_op.specs.Operations.{Op, Ops, op_cmp}
+use Rattle.reg_op.specs.Operations.{Op, Ops}
 use Rattle.reg_op.specs.Contents.{Content, state, joined}
 use Rattle.reg_op.specs.Pieces.{Piece, part_of, joined_piece}
 use Rattle.reg_op.specs.Lists.{has}
@@ -20,6 +18,7 @@ use Rattle.reg_op.proofs.RefusalLemmas.{piece_joined}
 use Rattle.reg_file.specs.Files.{ReadsAs}
 use Rattle.reg_file.proofs.HoldLemmas.{one_reading}
 use Rattle.reg_office.proofs.LawLemmas.{are_unseen}
+use Rattle.reg_office.proofs.WorldSteps.{head_has, tail_has}
 use Rattle.reg_writers.specs.Registers.{Step, Makes, Joins, JoinsPiece, Command, Steps, Turns, IsTurned, Changes, AreChanges, HasSeen, Gives, HasGiven}
 
 pub union_left : (s t : Ids) (i : Id) → set.contains s i ≡ true → set.contains (set.union s t) i ≡ true
@@ -47,13 +46,6 @@ stepped_sees (JoinsPiece piece) x y given i t h = piece_left x y piece i t.0 h
 pub turned_sees : (c : Command) (x y : Content) (given : List Id) (i : Id) → Turns c x y given → set.contains x.seen i ≡ true → set.contains y.seen i ≡ true
 turned_sees [] x y given i t h = subst (λ (w : Content). set.contains w.seen i ≡ true) (sym t.0) h
 turned_sees (s ∷ ss) x y given i (z, now, later, first, rest, all) h = turned_sees ss z y later i rest (stepped_sees s x z now i first h)
-
--- each id of some operations is the id of one of them
-head_has : (p : Op) (os : List Op) → has (p ∷ os) p ≡ true
-head_has p os = or_left _ (has os p) (ap is_eq (tied_itself op_total p))
-
-tail_has : (q p : Op) (os : List Op) → has os q ≡ true → has (p ∷ os) q ≡ true
-tail_has q p os h = or_right (eq_by_cmp op_cmp q p) _ h
 
 op_at : (os : List Op) (i : Id) (k : ℕ) → k < length (map (λ (o : Op). o.id) os) → slice_index_or (map (λ (o : Op). o.id) os) k i ≡ i → (o : Op) × (has os o ≡ true) × (o.id ≡ i)
 op_at [] i k below at = absurd (omega arith)

@@ -2,6 +2,7 @@
 use Rattle.std.proofs.Common.{◌≡◌, Bool, true, false, not, ◌&&◌, ◌||◌, cond, List, [], ◌∷◌, ◌++◌, Option, Some, None, refl, sym, ap, ◌∙◌, subst, inl, inr, ◌⊎◌}
 use Rattle.std.proofs.lemmas.Bool.{and_from, and_parts, or_left, or_right, or_cases, true≢false, not-true, not_from_false, false_from_ne_true, true_from_ne_false, and_right}
 use Rattle.std.proofs.lemmas.List.Folds.{list_any-append}
+use Rattle.std.proofs.Math.Bool.{or-false, or_comm}
 use Rattle.std.specs.Cmp.{tied_itself, both_ways, Equal-is}
 use Rattle.std.specs.Ordering.{is_eq, eq_by_cmp}
 use Rattle.std.specs.List.{list_any, filter, find}
@@ -93,10 +94,6 @@ contains-filter_push f xs o q =
     contains-from_list op_total (filter f xs ++ o ∷ []) q
     ∙ list_any-append (eq_by_cmp op_cmp q) (filter f xs) (o ∷ [])
     ∙ (λ k. (in_filter f q xs ∙ ap (λ b. b && f q) (sym (contains-from_list op_total xs q))) k || or-false (eq_by_cmp op_cmp q o) k)
-  where
-    or-false : (a : Bool) → (a || false) ≡ a
-    or-false true = refl
-    or-false false = refl
 
 -- ---- tests of a list
 
@@ -127,12 +124,6 @@ seen_more is o =
     contains-insert id_total (set.from_list is) o.id i
     ∙ or_comm (is_same i o.id) (contains (set.from_list {R = id_cmp} is) i)
     ∙ sym (set.contains-union id_total (set.from_list is) (ids (one o)) i ∙ ap (λ b. contains (set.from_list {R = id_cmp} is) i || b) (ids_one o i)))
-  where
-    or_comm : (a b : Bool) → (a || b) ≡ (b || a)
-    or_comm true true = refl
-    or_comm true false = refl
-    or_comm false true = refl
-    or_comm false false = refl
 
 -- if no operation of a list clashes with o, no id has two bodies after o is added; otherwise the least clash is that of o
 module _ (xs : List Op) (o : Op) where

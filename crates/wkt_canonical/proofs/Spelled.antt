@@ -11,7 +11,3 @@ told false e = e
 pub spelled : {text word own : List ℕ} {differ : Bool} (letters rest : List ℕ) → text ≡ letters ++ rest → word ≡ own → differ ≡ not (pointwise nat_eq word letters) → differ ≡ false → text ≡ own ++ rest
 spelled {word = word} letters rest cut is test same =
     cut ∙ ap (λ l. l ++ rest) (sym (same_text word letters (told (pointwise nat_eq word letters) (sym test ∙ same))) ∙ is)
-
--- a word that equals the canonical spelling is this spelling
-pub equal_words : (word own : List ℕ) {listed : List ℕ} {equal : Bool} → own ≡ listed → equal ≡ pointwise nat_eq word own → equal ≡ true → word ≡ listed
-equal_words word own is test same = same_text word own (sym same ∙ test) ∙ is

@@ -11,19 +11,17 @@ use Rattle.wkt_tree.specs.Tree.{Piece, Tok, tok, Item, Items, text, number, word
 use Rattle.wkt_grammar.specs.declared.table.Node.{Node}
 use Rattle.wkt_grammar.specs.declared.table.Edition.{Edition}
 use Rattle.wkt_grammar.specs.declared.table.Slot.{Slot}
-use Rattle.wkt_grammar.specs.declared.table.SlotName.{SlotName}
 use Rattle.wkt_grammar.specs.declared.table.Keyword.{Keyword}
 use Rattle.wkt_grammar.specs.declared.table.Argument.{Argument}
 use Rattle.wkt_grammar.specs.declared.table.Argument.TheVariants as arguments
 use Rattle.wkt_grammar.specs.Words.{keyword_of, is_cs_kind, is_direction}
 use Rattle.wkt_grammar.specs.declared.walk.RowPosition.{RowPosition}
 use Rattle.wkt_grammar.specs.Rows.{row_of, row_in, enters, or_else, is_required}
-use Rattle.wkt_grammar.specs.Walk.{next, missing, is_many}
+use Rattle.wkt_grammar.specs.Walk.{next, is_many}
 use Rattle.wkt_grammar.specs.declared.fault.SlotFault.{SlotFault}
-use Rattle.wkt_grammar.specs.declared.fault.SlotFault.TheVariants.{Missing}
 use Rattle.wkt_grammar.specs.Slots.{argument, begin, argument_of, argument_by, number_argument, word_argument}
 use Rattle.crs_number.specs.Count.{is_count}
-use Rattle.wkt_grammar.specs.Next.{Follows, next_is, is_open, is_comma, place_next}
+use Rattle.wkt_grammar.specs.Next.{Follows, next_is, is_open, is_comma}
 use Rattle.wkt_grammar.specs.First.{row_by, first, items_fault, item_fault, missing_fault, rest_at, refusal, taken, argument_fault, AnswersItem, AnswersNode}
 
 -- after an argument, the node ends, or a comma and more arguments follow; the node has the fault of this rest
@@ -150,9 +148,6 @@ node_item ed n m k (node w d o items c) rest old a x e = (
   ap (option_and_then (λ y. items_fault ed y (row_of ed y) false items c.place)) (ap (row_by ed n) (known (keyword_of w.bytes) k a) ∙ x),
 )
 
-pub inner_err : (ed : Edition) (n : Node) (left l : List Slot) (filled : Bool) (i : Item) (f : SlotFault) → next left filled (argument i) ≡ Some l → item_fault ed n i ≡ Some f → argument_fault ed n left filled i ≡ Some f
-inner_err ed n left l filled i f x e = ap (λ o. taken (refusal left filled (argument i) (begin i)) (item_fault ed n i) (λ l. None) o) x ∙ ap (λ o. first o None) e
-
 -- ---- the arguments of a node
 
 pub taken_ok : (r : SlotFault) (inner : Option SlotFault) (go : List Slot → Option SlotFault) (o : Option (List Slot)) (l : List Slot) → o ≡ Some l → inner ≡ None → taken r inner go o ≡ go l
@@ -236,15 +231,6 @@ module _ (ed : Edition) (n : Node) (at : RowPosition) (old one : List Tok) (t : 
       let y = node_item ed n m k i rest old (sym h.0 ∙ g) r e in
       let b = ans y.0 y.1 y.2 rest (w ∙ (ap (drop 1) s.1 ∙ y.3)) in
       (b.0, x', z, y.4 ∙ b.1)
-
-  pub node_err_at : Seen → (k : Keyword) → a ≡ arguments.Node k → (m : Node) → row_in (row_of ed n) k ≡ Some m → (two new : List Tok) → two ≡ drop 1 one → (v : SlotFault) → AnswersNode ed m two new (Err v)
-      → (p : RowPosition) → next (rest_at ed n at) at.filled a ≡ Some (rest_at ed n p) → AnswersItem ed n at old new (Err v)
-  node_err_at s k g m r two new w v ans p x i rest e f =
-      let h = item_is s i rest e f in
-      let x' : next (rest_at ed n at) at.filled (argument i) ≡ Some (rest_at ed n p) = ap (next (rest_at ed n at) at.filled) (sym h.0) ∙ x in
-      let y = node_item ed n m k i rest old (sym h.0 ∙ g) r e in
-      let b = ans y.0 y.1 y.2 rest (w ∙ (ap (drop 1) s.1 ∙ y.3)) in
-      inner_err ed n (rest_at ed n at) (rest_at ed n p) at.filled i v x' (y.4 ∙ b)
 
 pub shorter_one : (old one : List Tok) → one ≡ drop 1 old → length one ≤ length old
 shorter_one old one e = let k = ap length e ∙ length-drop 1 old in omega (arith, k)

@@ -1,5 +1,5 @@
 -- The walk continues exactly while the arguments are admitted.
-use Rattle.std.proofs.Common.{◌≡◌, ℕ, zero, suc, ◌+◌, ◌≤◌, Bool, true, false, cond, List, [], ◌∷◌, ◌++◌, length, drop, Option, Some, None, refl, sym, ap, ◌∙◌, subst, arith}
+use Rattle.std.proofs.Common.{◌≡◌, ℕ, zero, suc, ◌+◌, Bool, true, false, cond, List, [], ◌∷◌, ◌++◌, length, drop, Option, Some, None, refl, sym, ap, ◌∙◌, subst, arith}
 use Rattle.std.specs.Prelude.{◌&&◌, ◌||◌, not, option_and_then}
 use Rattle.std.specs.List.{AllPass, list_all}
 use Rattle.std.proofs.lemmas.List.{append-nil}
@@ -19,11 +19,9 @@ use Rattle.wkt_grammar.specs.declared.table.Node.{Node}
 use Rattle.wkt_grammar.specs.declared.table.Node.TheVariants as nodes
 use Rattle.wkt_grammar.specs.declared.table.Keyword.TheVariants as keywords
 use Rattle.wkt_grammar.specs.Rows.{row_of, takes, Times, Fits, Admitted, is_required}
-use Rattle.wkt_grammar.specs.declared.walk.RowPosition.{RowPosition}
 use Rattle.std.specs.Option.{is_some}
 use Rattle.wkt_grammar.proofs.Keywords.{is_same}
-use Rattle.std.specs.Prelude.{MatchOption, IfSome, IfNone}
-use Rattle.wkt_grammar.specs.Walk.{IsAt, is_many, next, walk, missing, may_begin, all_arguments, is_clear}
+use Rattle.wkt_grammar.specs.Walk.{is_many, next, walk, missing, may_begin, all_arguments, is_clear}
 
 -- ---- the arguments that may still follow
 
@@ -365,12 +363,6 @@ walk_push args a row left filled e = walk-append args (a ∷ []) row false ∙ a
 module _ (ed : Edition) (node : Node) (slot : ℕ) (filled : Bool) (a : Argument) where
   pub step_at : (left : List Slot) → next (drop slot (row_of ed node)) filled a ≡ Some left → (args : List Argument) → walk (row_of ed node) false args ≡ Some (drop slot (row_of ed node), filled) → walk (row_of ed node) false (args ++ a ∷ []) ≡ Some (left, true)
   step_at left e args h = walk_push args a (row_of ed node) (drop slot (row_of ed node)) filled h ∙ ap (option_and_then (λ next_left. Some (next_left, true))) e
-
-  pub step_refused : next (drop slot (row_of ed node)) filled a ≡ None → (args : List Argument) → walk (row_of ed node) false args ≡ Some (drop slot (row_of ed node), filled) → Admitted (row_of ed node) (args ++ a ∷ []) → ⊥
-  step_refused e args h ad =
-      let g = goes_on (row_of ed node) (args ++ a ∷ []) (rows_clear ed node) ad in
-      let n = walk_push args a (row_of ed node) (drop slot (row_of ed node)) filled h ∙ ap (option_and_then (λ next_left. Some (next_left, true))) e in
-      cc
 
 pub missing_unfit : (ed : Edition) (node : Node) (at : Stands) (name : SlotName) (args : List Argument) → walk (row_of ed node) false args ≡ Some at → missing at.0 at.1 ≡ Some name → Fits (row_of ed node) args → ⊥
 missing_unfit ed node at n0 args h m f =

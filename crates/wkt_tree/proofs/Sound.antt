@@ -21,10 +21,6 @@ pub word_begins : (b : ℕ) → begun_by b ≡ Some Word → is_ascii_alphabetic
 unfolding begun_by
 word_begins b h = grind (arith, nat_tests)
 
-pub begins_word : (b : ℕ) → is_ascii_alphabetic b ≡ true → begun_by b ≡ Some Word
-unfolding begun_by
-begins_word b h = grind (arith, nat_tests)
-
 pub number_begins : (b : ℕ) → begun_by b ≡ Some Number → begins_number b ≡ true
 unfolding begun_by
 number_begins b h = grind (arith, nat_tests)

@@ -1,5 +1,4 @@
 use Rattle.std.proofs.Common.{◌≡◌, ◌++◌, ◌∷◌, ◌∙◌, [], rules}
-use Rattle.byte_system.specs.Entries.{bytes_from}
 use Rattle.byte_system.specs.declared.entries.Held.{Held}
 use Rattle.byte_system.proofs.EntryLemmas.{bytes_more, append_more}
 use Rattle.byte_system.proofs.entries.set_empty.Goals as goal

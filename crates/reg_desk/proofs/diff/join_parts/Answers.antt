@@ -2,7 +2,7 @@ use Rattle.std.proofs.Common.{Ok, sym, ap, subst, ◌∙◌}
 use Rattle.reg_join.specs.Joining.{all_joined}
 use Rattle.reg_op.specs.Contents.{nothing, joined}
 use Rattle.reg_commands.specs.Merge.{begun, with_pieces, IsUnjoined}
-use Rattle.reg_desk.proofs.PartLemmas.{refusal_stays}
+use Rattle.reg_commands.proofs.MergeLemmas.{refusal_stays}
 use Rattle.reg_desk.proofs.diff.join_parts.Goals as goal
 
 pub returns-in-Err-clause-err : goal.returns-in-Err-clause-err

@@ -1,8 +1,9 @@
 use Rattle.std.proofs.Common.{List, map, sym, ◌∙◌, subst}
+use Rattle.std.proofs.lemmas.List.{nil_from_length}
 use Rattle.reg_report.specs.Seen.{row_seen}
 use Rattle.reg_disorder.specs.declared.link.OlderLink.{OlderLink}
 use Rattle.reg_disorder.specs.Heirs.{Visits}
-use Rattle.reg_disorder.proofs.HeirLemmas.{search_begins, visited, less_left, search_ends, nothing_left}
+use Rattle.reg_disorder.proofs.HeirLemmas.{search_begins, visited, less_left, search_ends}
 use Rattle.reg_disorder.proofs.heir.with_heirs.Goals as goal
 
 pub loop-id-init : goal.loop-id-init
@@ -19,4 +20,4 @@ loop-id-preserved c =
     (subst (λ (l : List OlderLink). Visits l c.in-Some.id c.pop.new.self.items c.loop-id.found c.visit.new.todo.items c.visit.new.found) c.deref.ensures.value c.in_ok-visit.ensures)
 
 pub returns : goal.returns
-returns c = search_ends (map row_seen c.args.rows.now) c.loop-id.todo.items c.loop-id.found (nothing_left c.loop-id.todo.items (sym c.loop-id.todo.ok.0 ∙ c.in_default.ensures.cases.0)) c.loop-id.invariant
+returns c = search_ends (map row_seen c.args.rows.now) c.loop-id.todo.items c.loop-id.found (nil_from_length c.loop-id.todo.items (sym c.loop-id.todo.ok.0 ∙ c.in_default.ensures.cases.0)) c.loop-id.invariant

@@ -5,8 +5,9 @@ use Rattle.reg_export.specs.Chosen.{IsContested, IsTaken}
 use Rattle.reg_export.specs.Kept.{row_at, place_of, option_place}
 use Rattle.reg_report.specs.Keys.{key_bytes}
 use Rattle.reg_export.proofs.NotedLemmas.{contested_is}
-use Rattle.reg_export.proofs.ChosenLemmas.{Best, keeps_none, keeps_all, best_none, with_row, taken_is, more_done, is_there, all_done, none_left}
+use Rattle.reg_export.proofs.ChosenLemmas.{Best, keeps_none, keeps_all, best_none, with_row, taken_is, more_done, is_there, all_done}
 use Rattle.reg_export.proofs.chosen.uncontested.Goals as goal
+use Rattle.reg_texts.proofs.NamedLemmas.{nothing_left}
 
 pub loop-row-init : goal.loop-row-init
 loop-row-init c =
@@ -39,7 +40,7 @@ returns c =
     let all = map row_seen c.args.rows.now in
     let rest = map row_seen c.loop-row.rest.now in
     let done = c.loop-row.invariant.0 in
-    let none = none_left row_seen c.loop-row.rest.now c.in_default.ensures.cases in
+    let none = nothing_left row_seen c.loop-row.rest.now c.in_default.ensures.cases in
     record {
       kept = keeps_all all rest (map row_at c.loop-row.kept.items) none c.loop-row.invariant.2;
       taken = subst (λ o. IsTaken all o) (sym c.entry_of.ensures) (taken_is all done (option_place c.loop-row.least) (all_done all done rest c.loop-row.invariant.1 none) c.loop-row.invariant.3);

@@ -2,8 +2,8 @@ use Rattle.std.proofs.Common.{[], ◌++◌, map, refl, sym, ap, ◌∙◌, appen
 use Rattle.reg_report.specs.Seen.{row_seen}
 use Rattle.reg_export.specs.Graph.{IsNodeOf}
 use Rattle.reg_export.proofs.EachLemmas.{gathers_none, gathers_more, gathers_all}
-use Rattle.reg_export.proofs.ChosenLemmas.{none_left}
 use Rattle.reg_export.proofs.graph.push_nodes.Goals as goal
+use Rattle.reg_texts.proofs.NamedLemmas.{nothing_left}
 
 pub loop-row-init : goal.loop-row-init
 loop-row-init c = ([], sym (append-nil c.args.text.now.items), gathers_none (IsNodeOf c.args.all c.args.ids.now) (map row_seen c.args.rows.now) [] refl)
@@ -21,6 +21,6 @@ loop-row-preserved c =
 pub returns : goal.returns
 returns c = (
   c.loop-row.invariant.0,
-  gathers_all (IsNodeOf c.args.all c.args.ids.now) (map row_seen c.args.rows.now) (map row_seen c.loop-row.rest.now) c.loop-row.invariant.0 (none_left row_seen c.loop-row.rest.now c.in_default.ensures.cases) c.loop-row.invariant.2,
+  gathers_all (IsNodeOf c.args.all c.args.ids.now) (map row_seen c.args.rows.now) (map row_seen c.loop-row.rest.now) c.loop-row.invariant.0 (nothing_left row_seen c.loop-row.rest.now c.in_default.ensures.cases) c.loop-row.invariant.2,
   c.loop-row.invariant.1,
 )

@@ -3,8 +3,9 @@ use Rattle.reg_report.specs.Seen.{row_seen}
 use Rattle.reg_report.specs.Keys.{key_bytes}
 use Rattle.reg_export.specs.Noted.{with_text, with_note, Tells}
 use Rattle.reg_export.proofs.NotedLemmas.{nothing_held, nothing_told, told_more}
-use Rattle.reg_export.proofs.ChosenLemmas.{more_done, all_done, none_left}
+use Rattle.reg_export.proofs.ChosenLemmas.{more_done, all_done}
 use Rattle.reg_export.proofs.notes.notes_of.Goals as goal
+use Rattle.reg_texts.proofs.NamedLemmas.{nothing_left}
 
 pub loop-row-init : goal.loop-row-init
 loop-row-init c = ([], refl, ((λ _. None), nothing_held c.new-made.result c.new-made.ensures.empty, nothing_told))
@@ -28,5 +29,5 @@ loop-row-preserved c =
 pub returns : goal.returns
 returns c =
     let at = c.loop-row.invariant.2.0 in
-    let whole = all_done (map row_seen c.args.rows.now) c.loop-row.invariant.0 (map row_seen c.loop-row.rest.now) c.loop-row.invariant.1 (none_left row_seen c.loop-row.rest.now c.in_default.ensures.cases) in
+    let whole = all_done (map row_seen c.args.rows.now) c.loop-row.invariant.0 (map row_seen c.loop-row.rest.now) c.loop-row.invariant.1 (nothing_left row_seen c.loop-row.rest.now c.in_default.ensures.cases) in
     (at, c.loop-row.invariant.2.1, λ k. subst (λ l. Tells l k (at k)) (sym whole) (c.loop-row.invariant.2.2 k))

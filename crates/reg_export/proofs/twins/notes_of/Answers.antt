@@ -2,8 +2,9 @@ use Rattle.std.proofs.Common.{ℕ, List, [], ◌∷◌, ◌++◌, None, map, ref
 use Rattle.std.specs.Global.{Vec}
 use Rattle.reg_export.specs.KeyFiles.{lower}
 use Rattle.reg_export.specs.Twins.{with_name, with_note, Tells}
-use Rattle.reg_export.proofs.TwinLemmas.{nothing_held, nothing_told, told_more, more_done, all_done, none_left}
+use Rattle.reg_export.proofs.TwinLemmas.{nothing_held, nothing_told, told_more, more_done, all_done}
 use Rattle.reg_export.proofs.twins.notes_of.Goals as goal
+use Rattle.reg_texts.proofs.NamedLemmas.{nothing_left}
 
 abbrev bytes : Vec ℕ → List ℕ
 bytes n = n.items
@@ -32,5 +33,5 @@ loop-name-preserved c =
 pub returns : goal.returns
 returns c =
     let at = c.loop-name.invariant.2.0 in
-    let whole = all_done (map bytes c.args.names.now) c.loop-name.invariant.0 (map bytes c.loop-name.rest.now) c.loop-name.invariant.1 (none_left bytes c.loop-name.rest.now c.in_default.ensures.cases) in
+    let whole = all_done (map bytes c.args.names.now) c.loop-name.invariant.0 (map bytes c.loop-name.rest.now) c.loop-name.invariant.1 (nothing_left bytes c.loop-name.rest.now c.in_default.ensures.cases) in
     (at, c.loop-name.invariant.2.1, λ k. subst (λ l. Tells l k (at k)) (sym whole) (c.loop-name.invariant.2.2 k))

@@ -1,13 +1,13 @@
 use Rattle.std.proofs.Common.{◌∙◌, Some, sym, subst, arith}
-use Rattle.std.proofs.lemmas.Bool.{and_parts}
+use Rattle.std.proofs.lemmas.Bool.{and_parts, ltb-true}
 use Rattle.reg_state.specs.Runs.{AreRuns, id_at}
 use Rattle.reg_state.proofs.RunLemmas.{rest_runs}
-use Rattle.reg_journal.proofs.ForgedLemmas.{lt_of, is_above, above_first, above_rest, leasts_new}
+use Rattle.reg_journal.proofs.ForgedLemmas.{is_above, above_first, above_rest, leasts_new}
 use Rattle.reg_journal.proofs.LeastLemmas.{leasts_same}
 use Rattle.reg_journal.proofs.forged.first_above.Goals as goal
 
 pub first_beyond-requires : goal.first_beyond-requires
-first_beyond-requires c = lt_of _ _ (and_parts _ _ (sym c.is_above.ensures ∙ c.if-is_above.true)).1
+first_beyond-requires c = ltb-true _ _ (and_parts _ _ (sym c.is_above.ensures ∙ c.if-is_above.true)).1
 
 pub returns-then-is_above : goal.returns-then-is_above
 returns-then-is_above c =

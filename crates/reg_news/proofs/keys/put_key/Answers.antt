@@ -1,8 +1,9 @@
 use Rattle.std.proofs.Common.{◌||◌, ap, ◌∙◌}
 use Rattle.reg_report.specs.Keys.{key_bytes}
 use Rattle.reg_disorder.specs.Keys.{has_key}
+use Rattle.reg_disorder.proofs.TextLemmas.{cond_or}
 use Rattle.reg_news.specs.Keys.{same_key}
-use Rattle.reg_news.proofs.KeyLemmas.{as_key, cond_or}
+use Rattle.reg_news.proofs.KeyLemmas.{as_key}
 use Rattle.reg_news.proofs.keys.put_key.Goals as goal
 
 pub returns : goal.returns

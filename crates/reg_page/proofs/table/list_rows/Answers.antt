@@ -9,8 +9,9 @@ use Rattle.reg_page.specs.Blocks.{bytes_of}
 use Rattle.reg_page.specs.Descriptions.{at}
 use Rattle.reg_page.specs.Page.{entry_of}
 use Rattle.reg_page.proofs.BlockLemmas.{listed}
-use Rattle.reg_page.proofs.LoopLemmas.{as_others, one_more, map_composed}
+use Rattle.reg_page.proofs.LoopLemmas.{as_others, one_more}
 use Rattle.reg_page.proofs.table.list_rows.Goals as goal
+use Rattle.reg_lint.proofs.VoiceLemmas.{map_twice}
 
 pub loop-i-init : goal.loop-i-init
 loop-i-init c = λ m. nothing (bytes_of m c.args.blocks.now.items)
@@ -26,4 +27,4 @@ returns c = λ m.
     let rows = c.args.rows.now in
     let each = λ (t : Bor Described). row t.now in
     as_others (flat_map (entry m.named) (map each (take c.loop-i.i rows))) (flat_map (entry m.named) (map row (at rows)))
-    (ap (λ l. flat_map (entry m.named) (map each l)) (take_all c.loop-i.i rows c.loop-i-test.false) ∙ ap (flat_map (entry m.named)) (map_composed row (λ (t : Bor Described). t.now) rows)) (c.loop-i.invariant m)
+    (ap (λ l. flat_map (entry m.named) (map each l)) (take_all c.loop-i.i rows c.loop-i-test.false) ∙ ap (flat_map (entry m.named)) (map_twice row (λ (t : Bor Described). t.now) rows)) (c.loop-i.invariant m)

@@ -3,8 +3,9 @@ use Rattle.std.proofs.lemmas.Result.{err_from_is_err_and}
 use Rattle.std.specs.Borrow.{Bor}
 use Rattle.reg_supersede.specs.Effects.{task_of}
 use Rattle.reg_supersede.proofs.LineLemmas.{can_none, none_paired}
-use Rattle.reg_supersede.proofs.ListLemmas.{here, ended, completes_first, passes_first, completes_more, passes_more, passes_here, all_done}
+use Rattle.reg_supersede.proofs.ListLemmas.{completes_first, passes_first, completes_more, passes_more, passes_here, all_done}
 use Rattle.reg_supersede.proofs.list.all_lines.Goals as goal
+use Rattle.reg_keys.proofs.NamedLemmas.{here, ended}
 
 pub loop-at-init : goal.loop-at-init
 loop-at-init c =

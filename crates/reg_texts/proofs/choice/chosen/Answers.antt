@@ -1,8 +1,9 @@
 use Rattle.std.proofs.Common.{map, ap, sym, subst}
 use Rattle.reg_report.specs.Seen.{row_seen}
 use Rattle.reg_texts.specs.Compare.{IsChosen, seen_rows}
-use Rattle.reg_texts.proofs.EachLemmas.{Gathers, gathers_none, gathers_more, gathers_all, none_left}
+use Rattle.reg_texts.proofs.EachLemmas.{Gathers, gathers_none, gathers_more, gathers_all}
 use Rattle.reg_texts.proofs.choice.chosen.Goals as goal
+use Rattle.reg_keys.proofs.NamedLemmas.{nothing_left}
 
 pub loop-row-init : goal.loop-row-init
 loop-row-init g c =
@@ -22,4 +23,4 @@ loop-row-preserved g c =
 pub returns : goal.returns
 returns g c =
     let rows = map row_seen c.args.rows.now in
-    gathers_all (IsChosen (g.C.RowFilter.wants c.args.choice.now)) rows (map row_seen c.loop-row.rest.now) (seen_rows c.loop-row.found.items) (none_left row_seen c.loop-row.rest.now c.in_default.ensures.cases) c.loop-row.invariant
+    gathers_all (IsChosen (g.C.RowFilter.wants c.args.choice.now)) rows (map row_seen c.loop-row.rest.now) (seen_rows c.loop-row.found.items) (nothing_left row_seen c.loop-row.rest.now c.in_default.ensures.cases) c.loop-row.invariant

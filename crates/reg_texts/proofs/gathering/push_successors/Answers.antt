@@ -1,8 +1,9 @@
 use Rattle.std.proofs.Common.{[], ◌++◌, map, ap, sym, ◌∙◌, append-nil, append_assoc, subst}
+use Rattle.std.proofs.lemmas.List.{nil_from_length}
 use Rattle.reg_report.specs.Seen.{row_seen}
 use Rattle.reg_texts.specs.Said.{said}
 use Rattle.reg_texts.specs.Gathered.{IsSaidBy}
-use Rattle.reg_texts.proofs.EachLemmas.{Gathers, gathers_none, gathers_more, gathers_all, nothing_left}
+use Rattle.reg_texts.proofs.EachLemmas.{Gathers, gathers_none, gathers_more, gathers_all}
 use Rattle.reg_texts.proofs.gathering.push_successors.Goals as goal
 
 pub loop-entry-init : goal.loop-entry-init
@@ -27,4 +28,4 @@ returns c =
     let By = IsSaidBy (map row_seen c.args.rows.now) (row_seen c.args.row.now) in
     let newer = (row_seen c.args.row.now).newer in
     let was = c.loop-entry.invariant in
-    (was.0, gathers_all By newer c.loop-entry.rest.now was.0 (nothing_left c.loop-entry.rest.now c.in_default.ensures.cases) was.2, was.1)
+    (was.0, gathers_all By newer c.loop-entry.rest.now was.0 (nil_from_length c.loop-entry.rest.now c.in_default.ensures.cases) was.2, was.1)

@@ -2,8 +2,9 @@ use Rattle.std.proofs.Common.{map, ap, sym, subst}
 use Rattle.reg_report.specs.Seen.{row_seen}
 use Rattle.reg_texts.specs.Said.{said}
 use Rattle.reg_texts.specs.Gathered.{AreOfRow}
-use Rattle.reg_texts.proofs.EachLemmas.{Gathers, gathers_none, gathers_more, gathers_all, none_left}
+use Rattle.reg_texts.proofs.EachLemmas.{Gathers, gathers_none, gathers_more, gathers_all}
 use Rattle.reg_texts.proofs.gathering.sayings.Goals as goal
+use Rattle.reg_keys.proofs.NamedLemmas.{nothing_left}
 
 pub loop-row-init : goal.loop-row-init
 loop-row-init c =
@@ -21,4 +22,4 @@ loop-row-preserved c =
 pub returns : goal.returns
 returns c =
     let rows = map row_seen c.args.rows.now in
-    gathers_all (AreOfRow rows) rows (map row_seen c.loop-row.rest.now) (map said c.loop-row.made.items) (none_left row_seen c.loop-row.rest.now c.in_default.ensures.cases) c.loop-row.invariant
+    gathers_all (AreOfRow rows) rows (map row_seen c.loop-row.rest.now) (map said c.loop-row.made.items) (nothing_left row_seen c.loop-row.rest.now c.in_default.ensures.cases) c.loop-row.invariant

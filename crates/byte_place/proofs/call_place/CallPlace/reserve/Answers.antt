@@ -1,10 +1,9 @@
-use Rattle.std.proofs.Common.{◌≡◌, ◌∷◌, sym, subst, rules}
+use Rattle.std.proofs.Common.{◌≡◌, sym, subst, rules}
 use Rattle.std.proofs.Math.Logic.{∥∥₁_map}
 use Rattle.byte_system.specs.System.{calls}
 use Rattle.byte_place.specs.declared.progress.At.TheVariants as at
-use Rattle.byte_system.specs.Disk.{Fails}
 use Rattle.byte_protocol.specs.Replacing.{reserved, Refuses}
-use Rattle.byte_place.specs.Steps.{Visits, MakesNone, told_of}
+use Rattle.byte_place.specs.Steps.{Visits, MakesNone}
 use Rattle.byte_place.proofs.Courses.{as_at, visited, reserved_own, refused, none_refused}
 use Rattle.byte_place.proofs.call_place.CallPlace.reserve.Goals as goal
 

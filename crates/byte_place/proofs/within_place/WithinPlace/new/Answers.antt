@@ -1,8 +1,7 @@
-use Rattle.std.proofs.Common.{false, sym, subst}
 use Rattle.byte_system.specs.System.{calls}
-use Rattle.byte_place.specs.Steps.{AreNone}
+use Rattle.std.proofs.Common.{false}
 use Rattle.byte_place.proofs.Turning.{starts}
 use Rattle.byte_place.proofs.within_place.WithinPlace.new.Goals as goal
 
 pub invariant_of-result : goal.invariant_of-result
-invariant_of-result g c = record { course = ∣ starts c.args.out.items c.empty.result.bytes false (calls (g.S.System.state c.args.system)) c.empty.ensures (subst AreNone (sym c.requires) tt) ∣₁ }
+invariant_of-result g c = record { course = ∣ starts c.args.out.items c.empty.result.bytes false (calls (g.S.System.state c.args.system)) c.empty.ensures c.requires ∣₁ }

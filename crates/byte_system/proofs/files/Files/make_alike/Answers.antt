@@ -1,9 +1,7 @@
-use Rattle.std.proofs.Common.{◌≡◌, ◌≢◌, ℕ, ◌+◌, ◌<◌, ◌++◌, ◌∷◌, [], List, None, Some, true, false, refl, take, ap, sym, ◌∙◌, arith, rules}
+use Rattle.std.proofs.Common.{◌≡◌, ◌∷◌, None, Some, refl, rules}
 use Rattle.std.proofs.Math.Logic.{∥∥₁_map}
-use Rattle.byte_system.specs.Disk.{Event, Likens}
-use Rattle.byte_system.specs.Entries.{name_from, bytes_from, holder_from, lock_step, may_lock, is_file}
-use Rattle.byte_system.specs.Disk.{named, numbered, released}
-use Rattle.byte_system.specs.declared.entries.Lock.TheVariants as lock
+use Rattle.byte_system.specs.Disk.{Likens}
+use Rattle.byte_system.specs.Entries.{name_from}
 use Rattle.byte_system.proofs.FilesLemmas.{shown, likened}
 use Rattle.byte_system.proofs.files.Files.make_alike.Goals as goal
 

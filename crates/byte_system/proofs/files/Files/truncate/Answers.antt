@@ -1,8 +1,8 @@
-use Rattle.std.proofs.Common.{◌≡◌, ◌≢◌, ℕ, ◌+◌, ◌<◌, ◌++◌, ◌∷◌, [], List, None, Some, true, false, refl, take, ap, sym, ◌∙◌, arith, rules}
+use Rattle.std.proofs.Common.{◌≡◌, ℕ, ◌∷◌, [], refl, rules}
 use Rattle.std.proofs.Math.Logic.{∥∥₁_map}
-use Rattle.byte_system.specs.Disk.{Event, Fails, Truncates}
-use Rattle.byte_system.specs.Entries.{name_from, bytes_from, holder_from, lock_step, may_lock, is_file}
-use Rattle.byte_system.specs.Disk.{named, numbered, released}
+use Rattle.byte_system.specs.Disk.{Fails, Truncates}
+use Rattle.byte_system.specs.Entries.{bytes_from}
+use Rattle.byte_system.specs.Disk.{numbered}
 use Rattle.byte_system.proofs.FilesLemmas.{shown, idle, truncated}
 use Rattle.byte_system.proofs.files.Files.truncate.Goals as goal
 

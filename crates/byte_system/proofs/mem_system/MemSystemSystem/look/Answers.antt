@@ -1,5 +1,4 @@
-use Rattle.std.proofs.Common.{◌≡◌, ◌∷◌, rules}
-use Rattle.byte_system.specs.System.{SystemState, look_call}
+use Rattle.byte_system.specs.System.{look_call}
 use Rattle.byte_system.proofs.Took.{took_at}
 use Rattle.byte_system.proofs.Props.{honest}
 use Rattle.byte_system.proofs.mem_system.MemSystemSystem.look.Goals as goal

@@ -1,6 +1,5 @@
-use Rattle.std.proofs.Common.{◌≡◌, ◌∷◌, rules}
-use Rattle.byte_system.specs.Disk.{Locks, Looks, Truncates, Syncs, Compares, Renames, Unlinks, SyncsFolder}
-use Rattle.byte_system.specs.System.{SystemState, make_call, open_call, done_or_failed, told_or_failed, write_call}
+use Rattle.byte_system.specs.Disk.{Truncates}
+use Rattle.byte_system.specs.System.{done_or_failed}
 use Rattle.byte_system.proofs.Took.{took_at}
 use Rattle.byte_system.proofs.Props.{honest}
 use Rattle.byte_system.proofs.mem_system.MemSystemSystem.truncate.Goals as goal

@@ -1,0 +1,214 @@
+//! The calls of std behind those of a system, for names that are text. What a call does there is read, not proved: each function makes
+//! the calls of its name.
+
+ghost use Rattle.std.specs.Prelude.{◌≡◌, ◌≤◌, length};
+
+use crate::host_answers::{make_fault, permissions, rename_fault, there_is};
+use crate::host_system::{HostSystem, Opened};
+use crate::system::{FileReadFault, FolderSyncFault, Mode, NewFileFault, RenameFault, There};
+use byte_out::make_alike;
+use std::fs::{self, File, Metadata, OpenFile, OpenOptions, TryLockError};
+use std::io::{ErrorKind, Read, Write};
+use std::os::unix::fs::{MetadataExt, OpenOptionsExt};
+use std::str;
+
+impl HostSystem<'_> {
+    // The number of an open file.
+    fn number(&mut self, file: File, is_made: bool) -> Option<usize>
+        ensures { self.new.trail ≡ self.old.trail }
+    {
+        let opened = file.metadata().ok()?;
+        for (i, other) in self.open.iter().enumerate() {
+            match other.file.metadata() {
+                Ok(there) if is_same(&there, &opened) => return Some(i),
+                _ => {}
+            }
+        }
+        let number = self.open.len();
+        self.open.push(Opened { file, is_made }).ok()?;
+        Some(number)
+    }
+
+    /// What has the name; none if it could not be looked at.
+    pub(crate) fn found_at(&self, path: &[u8]) -> Option<There> {
+        match fs::symlink_metadata(self.rt, str::from_utf8(path).ok()?) {
+            Ok(there) => there_is(&there),
+            Err(error) if error.kind() == ErrorKind::NotFound => Some(There::Nothing),
+            Err(_) => None,
+        }
+    }
+
+    /// Whether the open file is open to the same people as the one with the name from now on; none if it could not be changed.
+    pub(crate) fn likens(&self, file: usize, path: &[u8]) -> Option<bool> {
+        let old = fs::symlink_metadata(self.rt, str::from_utf8(path).ok()?).ok()?;
+        make_alike(&self.open.get(file)?.file, &old).ok()
+    }
+
+    /// Makes a new file. Returns its number.
+    pub(crate) fn make_at(&mut self, path: &[u8], mode: Mode) -> Result<usize, NewFileFault>
+        ensures { self.new.trail ≡ self.old.trail }
+    {
+        let Ok(path) = str::from_utf8(path) else {
+            return Err(NewFileFault::NotMade);
+        };
+        // Without room for its number, no file is made.
+        if self.open.reserve(1).is_err() {
+            return Err(NewFileFault::NotMade);
+        }
+        match OpenOptions::new()
+            .append(true)
+            .create_new(true)
+            .mode(permissions(mode))
+            .open(self.rt, path)
+        {
+            Ok(file) => self.number_made(file, path),
+            Err(error) => Err(make_fault(error.kind())),
+        }
+    }
+
+    // The number of a file that was made. One that gets none is removed.
+    fn number_made(&mut self, file: File, path: &str) -> Result<usize, NewFileFault>
+        ensures { self.new.trail ≡ self.old.trail }
+    {
+        let Some(number) = self.number(file, true) else {
+            let _ = fs::remove_file(self.rt, path);
+            return Err(NewFileFault::NotMade);
+        };
+        Ok(number)
+    }
+
+    /// Opens the file with the name. Returns its number.
+    pub(crate) fn open_at(&mut self, path: &[u8]) -> Option<usize>
+        ensures { self.new.trail ≡ self.old.trail }
+    {
+        let path = str::from_utf8(path).ok()?;
+        let file = OpenOptions::new().append(true).open(self.rt, path).ok()?;
+        self.number(file, false)
+    }
+
+    /// Asks for the lock of an open file. Where the file system has no locks, whoever made a file has its lock, and nobody else.
+    pub(crate) fn is_locked(&self, file: usize) -> Option<bool> {
+        let opened = self.open.get(file)?;
+        match opened.file.try_lock() {
+            Ok(()) => Some(true),
+            Err(TryLockError::WouldBlock) => Some(false),
+            Err(TryLockError::Error(_)) if opened.is_made => Some(true),
+            Err(TryLockError::Error(_)) => None,
+        }
+    }
+
+    /// Whether the name leads to the open file; none if it could not be looked at.
+    pub(crate) fn is_at(&self, path: &[u8], file: usize) -> Option<bool> {
+        let opened = self.open.get(file)?.file.metadata().ok()?;
+        match fs::symlink_metadata(self.rt, str::from_utf8(path).ok()?) {
+            Ok(there) => Some(is_same(&there, &opened)),
+            Err(error) if error.kind() == ErrorKind::NotFound => Some(false),
+            Err(_) => None,
+        }
+    }
+
+    /// Whether the file with the name has exactly these bytes. Where there is none, it has not.
+    pub(crate) fn has_at(&self, path: &[u8], bytes: &[u8]) -> Result<bool, FileReadFault> {
+        let Ok(path) = str::from_utf8(path) else {
+            return Err(FileReadFault::NotOpened);
+        };
+        match fs::open(self.rt, path) {
+            Ok(mut file) => gives(&mut file, bytes),
+            Err(error) => match error.kind() {
+                ErrorKind::NotFound => Ok(false),
+                ErrorKind::PermissionDenied => Err(FileReadFault::Forbidden),
+                _ => Err(FileReadFault::NotOpened),
+            },
+        }
+    }
+
+    /// Renames a file. Nothing is done if the two names are one.
+    pub(crate) fn renames(&self, from: &[u8], to: &[u8]) -> Result<(), RenameFault> {
+        match (str::from_utf8(from), str::from_utf8(to)) {
+            (Ok(from), Ok(to)) if from != to => match fs::rename(self.rt, from, to) {
+                Ok(()) => Ok(()),
+                Err(error) => Err(rename_fault(error.kind())),
+            },
+            _ => Err(RenameFault::NotRenamed),
+        }
+    }
+
+    /// Removes a file. Returns whether that worked.
+    pub(crate) fn removes(&self, path: &[u8]) -> bool {
+        match str::from_utf8(path) {
+            Ok(path) => fs::remove_file(self.rt, path).is_ok(),
+            Err(_) => false,
+        }
+    }
+
+    /// Syncs the folder of a name.
+    pub(crate) fn syncs_folder(&self, path: &[u8]) -> Result<(), FolderSyncFault> {
+        let Ok(path) = str::from_utf8(path) else {
+            return Err(FolderSyncFault::NotOpened);
+        };
+        match fs::open(self.rt, folder(path)) {
+            Ok(folder) => match folder.sync_all() {
+                Ok(()) => Ok(()),
+                Err(_) => Err(FolderSyncFault::NotSynced),
+            },
+            Err(error) if error.kind() == ErrorKind::PermissionDenied => {
+                Err(FolderSyncFault::Forbidden)
+            }
+            Err(_) => Err(FolderSyncFault::NotOpened),
+        }
+    }
+}
+
+fn is_same(a: &Metadata, b: &Metadata) -> bool {
+    a.dev() == b.dev() && a.ino() == b.ino()
+}
+
+/// Writes the bytes to a file, as many as it takes. Returns how many.
+pub(crate) fn write_to(file: &mut File, bytes: &[u8]) -> usize
+    ensures { result ≤ length bytes.now }
+{
+    let mut rest = bytes;
+    for _ in 0..bytes.len() {
+        let Ok(n) = file.write(rest) else {
+            break;
+        };
+        if n == 0 || n > rest.len() {
+            break;
+        }
+        rest = &rest[n..];
+        if rest.is_empty() {
+            break;
+        }
+    }
+    bytes.len().saturating_sub(rest.len())
+}
+
+// Whether the file gives exactly these bytes.
+fn gives(file: &mut File, bytes: &[u8]) -> Result<bool, FileReadFault> {
+    let mut rest = bytes;
+    let mut chunk = [0; 16_384];
+    for _ in 0..u64::MAX {
+        let n = match file.read(&mut chunk) {
+            Ok(n) => n,
+            Err(error) if error.kind() == ErrorKind::Interrupted => continue,
+            Err(_) => return Err(FileReadFault::Cut(bytes.len().saturating_sub(rest.len()))),
+        };
+        if n == 0 {
+            return Ok(rest.is_empty());
+        }
+        if n > rest.len() || chunk[..n] != rest[..n] {
+            return Ok(false);
+        }
+        rest = &rest[n..];
+    }
+    Ok(false)
+}
+
+// The folder of the file at a path.
+fn folder(path: &str) -> &str {
+    match path.rsplit_once('/') {
+        Some(("", _)) => "/",
+        Some((folder, _)) => folder,
+        None => ".",
+    }
+}
