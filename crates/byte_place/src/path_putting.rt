@@ -101,10 +101,20 @@ impl<'a, R: Files, S: System + Drop, M: SystemSource<S> + Drop, D: Place + Drop>
         }
         match put_by(&mut self.beside, read, content, whole) {
             Ok(()) => {
-                self.within = None;
+                self.frees();
                 Ok(())
             }
             Err(fault) => Err(fault),
+        }
+    }
+
+    // Closes the old file, whose lock keeps nobody waiting then. Another put locks the file that has its name now.
+    fn frees(&mut self)
+        ensures { ⟦<PathPlace<'a, R, S, M, D> as Place>⟧.state self.new ≡ ⟦<PathPlace<'a, R, S, M, D> as Place>⟧.state self.old }
+    {
+        match (&mut self.within, self.source.system()) {
+            (Some(within), Ok(system)) => within.restart(system),
+            _ => self.within = None,
         }
     }
 

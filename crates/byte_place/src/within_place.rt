@@ -1,6 +1,6 @@
 //! The place of a file that is written in place.
 
-ghost use Rattle.std.specs.Prelude.{◌≡◌, None, IsSome, true, false};
+ghost use Rattle.std.specs.Prelude.{[], ◌≡◌, None, IsSome, true, false};
 ghost use Rattle.byte_io.specs.Device.{target_of};
 ghost use Rattle.byte_out.specs.Place.{untold, PutsOnly};
 ghost use Rattle.byte_system.specs.System.{calls};
@@ -63,6 +63,18 @@ impl<S: System + Drop> WithinPlace<S> {
             self.at = Within::Ready(file);
             self.unread = true;
         }
+    }
+
+    /// Closes the file, and begins anew by a process of its own.
+    pub fn restart(&mut self, system: S)
+        requires { calls (S.state system) ≡ [] }
+        ensures out { self.new.out ≡ self.old.out }
+    {
+        self.system = system;
+        self.at = Within::Start;
+        self.unread = false;
+        self.got = Log::empty();
+        self.taken = Log::empty();
     }
 
     /// Opens the file and locks it, if that was not done before. Until the place is dropped, nobody else writes the file in place.
