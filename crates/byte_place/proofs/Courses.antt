@@ -13,6 +13,8 @@ use Rattle.byte_protocol.proofs.Faults.{refused_anew}
 use Rattle.byte_place.specs.declared.progress.At.{At}
 use Rattle.byte_place.specs.declared.progress.At.TheVariants as at
 use Rattle.byte_place.specs.Course.{HasReadUnless, LeadsTo, IsJobAt, IsJobOf, checked, MayBePut, IsRemovable, Comes}
+use Rattle.byte_place.specs.declared.steps.Unput.{Unput}
+use Rattle.byte_place.specs.declared.steps.Unput.TheVariants as unput
 use Rattle.byte_place.specs.Steps.{renamed, Unrenamed, Clears, AreNone, Visits, MakesNone, told_of}
 
 unless : (u : Bool) (ms : List Move) → HasRead ms → HasReadUnless u ms
@@ -243,44 +245,49 @@ pub renamed_to : (out new bytes : List ℕ) (u : Bool) (i : ℕ) (before now : L
 renamed_to out new bytes u i before now c e = λ j k job.
     renames u j k i c.0 c.1.0 (e ∙ ap (λ o. renamed o new i before) (sym job.at_out) ∙ ap (λ n. renamed j.out n i before) (sym job.at_new)) (c.1.1 j k job)
 
-unrenamed : (u : Bool) (j : Job) (k i : ℕ) (s : Stage) (new : List ℕ) {before now : List Call} → Unrenamed new i before now → LeadsTo u j k s before → LeadsTo u j k s now
-unrenamed u j k i s new {before} r l = elim r [
-  | inl denied ↦ elim denied [
-    | inl e ↦ by_other u j k s (Looks new i false) e l (λ d m. refl)
-    | inr e ↦ by_other u j k s Fails e l (λ d m. refl)
-  ]
-  | inr e ↦
-      let looked : LeadsTo u j k s (Looks new i true ∷ before) = by_other u j k s (Looks new i true) refl l (λ d m. refl) in
-      by_other u j k s Fails e looked (λ d m. refl)
+-- the new name led to the new file, and the rename failed
+unmoved : (u : Bool) (j : Job) (k i : ℕ) (s : Stage) (new : List ℕ) {before now : List Call} → now ≡ Fails ∷ Looks new i true ∷ before → LeadsTo u j k s before
+    → LeadsTo u j k s now
+unmoved u j k i s new {before} e l =
+    let looked : LeadsTo u j k s (Looks new i true ∷ before) = by_other u j k s (Looks new i true) refl l (λ d m. refl) in
+    by_other u j k s Fails e looked (λ d m. refl)
+
+unrenamed : (f : Unput) (u : Bool) (j : Job) (k i : ℕ) (s : Stage) (new : List ℕ) {before now : List Call} → Unrenamed f new i before now → LeadsTo u j k s before
+    → LeadsTo u j k s now
+unrenamed unput.Lost u j k i s new r l = by_other u j k s (Looks new i false) r l (λ d m. refl)
+unrenamed unput.Refused u j k i s new r l = unmoved u j k i s new r l
+unrenamed unput.NotPut u j k i s new r l = elim r [
+  | inl e ↦ by_other u j k s Fails e l (λ d m. refl)
+  | inr e ↦ unmoved u j k i s new e l
 ]
 
-pub lost : (out new bytes : List ℕ) (u : Bool) (i : ℕ) (before now : List Call) → Comes out new bytes u (at.Ready i) before → Unrenamed new i before now
+pub lost : (out new bytes : List ℕ) (u : Bool) (i : ℕ) (before now : List Call) → Comes out new bytes u (at.Ready i) before → Unrenamed unput.Lost new i before now
     → Comes out new bytes u at.Over now
 lost out new bytes u i before now c r = λ j k job.
-    (Fills c.0 i (checked c.0), unrenamed u j k i (Fills c.0 i (checked c.0)) new r (c.1.1 j k job))
+    (Fills c.0 i (checked c.0), unrenamed unput.Lost u j k i (Fills c.0 i (checked c.0)) new r (c.1.1 j k job))
 
 -- the new file is left alone
 pub abandoned : (out new bytes : List ℕ) (u : Bool) (i : ℕ) (cs : List Call) → Comes out new bytes u (at.Ready i) cs → Comes out new bytes u at.Over cs
 abandoned out new bytes u i cs c = λ j k job. (Fills c.0 i (checked c.0), c.1.1 j k job)
 
 -- the new file was not put, and can only be removed
-removable : (out new bytes : List ℕ) (u : Bool) (i : ℕ) (before now : List Call) → Comes out new bytes u (at.Ready i) before → Unrenamed new i before now
+removable : (f : Unput) (out new bytes : List ℕ) (u : Bool) (i : ℕ) (before now : List Call) → Comes out new bytes u (at.Ready i) before → Unrenamed f new i before now
     → (j : Job) (k : ℕ) → IsJobOf j k out new bytes → IsRemovable u j k now
-removable out new bytes u i before now c r j k job = record {
+removable f out new bytes u i before now c r j k job = record {
   move = Withdraws c.0 i (checked c.0);
   idle = tt;
   seen = tt;
   call = refl;
-  leads = unrenamed u j k i (Fills c.0 i (checked c.0)) new r (c.1.1 j k job);
+  leads = unrenamed f u j k i (Fills c.0 i (checked c.0)) new r (c.1.1 j k job);
 }
 
-pub unput : (out new bytes : List ℕ) (u : Bool) (i : ℕ) (before now : List Call) → Comes out new bytes u (at.Ready i) before → Unrenamed new i before now
+pub not_put : (out new bytes : List ℕ) (u : Bool) (i : ℕ) (before now : List Call) → Comes out new bytes u (at.Ready i) before → Unrenamed unput.NotPut new i before now
     → Comes out new bytes u (at.Broken i) now
-unput out new bytes u i before now c r = removable out new bytes u i before now c r
+not_put out new bytes u i before now c r = removable unput.NotPut out new bytes u i before now c r
 
-pub refused_put : (out new bytes : List ℕ) (u : Bool) (i : ℕ) (before now : List Call) → Comes out new bytes u (at.Ready i) before → Unrenamed new i before now
+pub refused_put : (out new bytes : List ℕ) (u : Bool) (i : ℕ) (before now : List Call) → Comes out new bytes u (at.Ready i) before → Unrenamed unput.Refused new i before now
     → Comes out new bytes u (at.Refused i) now
-refused_put out new bytes u i before now c r = removable out new bytes u i before now c r
+refused_put out new bytes u i before now c r = removable unput.Refused out new bytes u i before now c r
 
 -- a call of a place that has been put, and that changes no file
 pub landed : (out new bytes : List ℕ) (u : Bool) (call : Call) (before now : List Call) → ChangesNone call → Comes out new bytes u at.Put before → now ≡ call ∷ before

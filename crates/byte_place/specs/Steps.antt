@@ -1,5 +1,5 @@
 -- The calls by which a place looks at OUT, puts its new file in place, or removes it. In each list of calls the last one comes first.
-use Rattle.std.specs.Prelude.{◌≡◌, ◌⊎◌, ℕ, true, List, [], ◌∷◌, Some}
+use Rattle.std.specs.Prelude.{◌≡◌, ◌⊎◌, ℕ, true, false, List, [], ◌∷◌, Some}
 use Rattle.byte_system.specs.Disk.{Call, Opens, Looks, Finds, Renames, Fails}
 use Rattle.byte_protocol.specs.Replacing.{Denies, Removes, Asks}
 use Rattle.byte_protocol.specs.Protocol.{ChangesNone}
@@ -7,6 +7,8 @@ use Rattle.byte_protocol.specs.declared.replacing.Fault.{Fault}
 use Rattle.byte_protocol.specs.declared.replacing.Fault.TheVariants as fault
 use Rattle.byte_place.specs.declared.progress.ReserveFault.{ReserveFault}
 use Rattle.byte_place.specs.declared.progress.ReserveFault.TheVariants as reserve
+use Rattle.byte_place.specs.declared.steps.Unput.{Unput}
+use Rattle.byte_place.specs.declared.steps.Unput.TheVariants as unput
 
 -- the calls change no files
 abbrev pub AreNone : List Call → Type 0
@@ -40,9 +42,11 @@ Visits out before now = Asks out before now ⊎ ((now ≡ Fails ∷ Finds out tr
 abbrev pub renamed : List ℕ → List ℕ → ℕ → List Call → List Call
 renamed out new i before = Renames new out ∷ Looks new i true ∷ before
 
--- the new name was not found to lead to the new file, or the rename failed
-abbrev pub Unrenamed : List ℕ → ℕ → List Call → List Call → Type 0
-Unrenamed new i before now = Denies (Looks new i) before now ⊎ (now ≡ Fails ∷ Looks new i true ∷ before)
+-- why the new file was not renamed: its name leads to another one; the rename was refused; a call failed
+abbrev pub Unrenamed : Unput → List ℕ → ℕ → List Call → List Call → Type 0
+Unrenamed unput.Lost new i before now = now ≡ Looks new i false ∷ before
+Unrenamed unput.Refused new i before now = now ≡ Fails ∷ Looks new i true ∷ before
+Unrenamed unput.NotPut new i before now = (now ≡ Fails ∷ before) ⊎ (now ≡ Fails ∷ Looks new i true ∷ before)
 
 -- the new name was not found to lead to the new file; or the file was removed, or that failed
 abbrev pub Clears : List ℕ → ℕ → List Call → List Call → Type 0

@@ -1,7 +1,9 @@
 //! How the place of a path compares the old file and puts the bytes in its place.
 
-ghost use Rattle.std.specs.Prelude.{◌≡◌, IfErr};
+ghost use Rattle.std.specs.Prelude.{◌≡◌, [], Some, IfSome, IfOk, IfErr, OnOk, option_map};
+ghost use Rattle.byte_system.specs.System.{calls};
 ghost use Rattle.byte_place.specs.Ways.{FitsIn};
+ghost use Rattle.byte_place.specs.declared.progress.Within.TheVariants as within;
 
 use crate::path_place::{PathPlace, Way};
 use crate::rereading::compare_new;
@@ -9,6 +11,7 @@ use crate::systems::SystemSource;
 use byte_out::{Chunks, CompareFault, Place, PutFault};
 use byte_protocol::EntryFault;
 use byte_system::System;
+use std::alloc::AllocError;
 use std::rt::Files;
 
 // Puts the bytes, of which there are this many, in the place of those of a file.
@@ -90,6 +93,7 @@ impl<'a, R: Files, S: System + Drop, M: SystemSource<S> + Drop, D: Place + Drop>
     ) -> Result<(), PutFault>
         ensures state { ⟦<PathPlace<'a, R, S, M, D> as Place>⟧.state self.new ≡ ⟦<PathPlace<'a, R, S, M, D> as Place>⟧.state self.old }
         ensures fits { IfErr result (λ f. FitsIn f whole) }
+        ensures closed { OnOk result (IfSome self.new.within (λ w. w.at ≡ within.Start)) }
     {
         match compare_new(self.rt, &self.own, content) {
             Ok(()) => {}
@@ -101,18 +105,22 @@ impl<'a, R: Files, S: System + Drop, M: SystemSource<S> + Drop, D: Place + Drop>
         }
         match put_by(&mut self.beside, read, content, whole) {
             Ok(()) => {
-                self.frees();
+                let system = self.source.system();
+                self.frees(system);
                 Ok(())
             }
             Err(fault) => Err(fault),
         }
     }
 
-    // Closes the old file, whose lock keeps nobody waiting then. Another put locks the file that has its name now.
-    fn frees(&mut self)
-        ensures { ⟦<PathPlace<'a, R, S, M, D> as Place>⟧.state self.new ≡ ⟦<PathPlace<'a, R, S, M, D> as Place>⟧.state self.old }
+    // Closes the old file, whose lock keeps nobody waiting then. Another put locks the file that has its name now, by this system.
+    fn frees(&mut self, system: Result<S, AllocError>)
+        requires { IfOk system (λ s. calls (S.state s) ≡ []) }
+        ensures state { ⟦<PathPlace<'a, R, S, M, D> as Place>⟧.state self.new ≡ ⟦<PathPlace<'a, R, S, M, D> as Place>⟧.state self.old }
+        ensures again { IfOk system (λ s. IfSome self.old.within (λ w. option_map (λ n. n.at) self.new.within ≡ Some within.Start)) }
+        ensures closed { IfSome self.new.within (λ w. w.at ≡ within.Start) }
     {
-        match (&mut self.within, self.source.system()) {
+        match (&mut self.within, system) {
             (Some(within), Ok(system)) => within.restart(system),
             _ => self.within = None,
         }
@@ -127,10 +135,21 @@ impl<'a, R: Files, S: System + Drop, M: SystemSource<S> + Drop, D: Place + Drop>
     ) -> Result<(), PutFault>
         ensures state { ⟦<PathPlace<'a, R, S, M, D> as Place>⟧.state self.new ≡ ⟦<PathPlace<'a, R, S, M, D> as Place>⟧.state self.old }
         ensures fits { IfErr result (λ f. FitsIn f whole) }
+        ensures closed { OnOk result (IfSome self.new.within (λ w. w.at ≡ within.Start)) }
     {
-        match self.within.take() {
-            Some(mut within) => put_by(&mut within, read, content, whole),
-            None => Err(PutFault::NotOpened),
+        let Some(within) = &mut self.within else {
+            return Err(PutFault::NotOpened);
+        };
+        match put_by(within, read, content, whole) {
+            Ok(()) => {
+                let system = self.source.system();
+                self.frees(system);
+                Ok(())
+            }
+            Err(fault) => {
+                self.within = None;
+                Err(fault)
+            }
         }
     }
 

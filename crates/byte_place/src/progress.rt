@@ -5,7 +5,7 @@
 pub(crate) enum At {
     /// There is no new file.
     Start,
-    /// The new file was made before the place was told to.
+    /// The new file was made before the place was asked to make it.
     Reserved(usize),
     /// It has the bytes that the place took.
     Owned(usize),

@@ -1,6 +1,6 @@
 //! The calls by which a place looks at the old file, puts its new file in place, or removes it.
 
-ghost use Rattle.std.specs.Prelude.{◌≡◌, ◌∷◌, OnOk, OnErr, IfOk};
+ghost use Rattle.std.specs.Prelude.{◌≡◌, ◌∷◌, OnOk, OnErr, IfOk, IfErr};
 ghost use Rattle.byte_system.specs.Disk.{Finds};
 ghost use Rattle.byte_system.specs.System.{GoesOn, calls};
 ghost use Rattle.byte_protocol.specs.Replacing.{Asks};
@@ -98,7 +98,7 @@ pub(crate) fn put_own<S: System>(
 ) -> Result<(), Unput>
     ensures goes { GoesOn (S.state system.old) (S.state system.new) }
     ensures ok { OnOk result (calls (S.state system.new) ≡ renamed out.now new.now file (calls (S.state system.old))) }
-    ensures fault { OnErr result (Unrenamed new.now file (calls (S.state system.old)) (calls (S.state system.new))) }
+    ensures fault { IfErr result (λ e. Unrenamed e new.now file (calls (S.state system.old)) (calls (S.state system.new))) }
 {
     match system.is_named(new, file) {
         Ok(true) => {}

@@ -6,6 +6,7 @@ ghost use Rattle.byte_out.specs.Place.{untold, PutsOnly};
 ghost use Rattle.byte_system.specs.System.{calls};
 ghost use Rattle.byte_place.specs.Steps.{AreNone};
 ghost use Rattle.byte_place.specs.Turns.{Turns};
+ghost use Rattle.byte_place.specs.declared.progress.Within.TheVariants as within;
 
 use crate::progress::Within;
 use byte_io::{DeviceFault, Log, Tally, WriteFault};
@@ -19,7 +20,7 @@ use byte_system::{FileReadFault, System};
 pub struct WithinPlace<S: System + Drop> {
     pub(crate) system: S,
     pub(crate) out: Vec<u8>,
-    at: Within,
+    pub(crate) at: Within,
     /// Whether a caller that had not read the file was about to write it.
     pub(crate) unread: bool,
     /// What the file got, or a part of it.
@@ -69,6 +70,7 @@ impl<S: System + Drop> WithinPlace<S> {
     pub fn restart(&mut self, system: S)
         requires { calls (S.state system) ≡ [] }
         ensures out { self.new.out ≡ self.old.out }
+        ensures start { self.new.at ≡ within.Start }
     {
         self.system = system;
         self.at = Within::Start;

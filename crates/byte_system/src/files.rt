@@ -1,4 +1,4 @@
-//! Files in memory, and the calls of any process on their names. A call fails if it is told to, or finds no room.
+//! Files in memory, and the calls of any process on their names. A call fails if a test lets it fail, or if there is no room.
 
 ghost use Rattle.std.specs.Prelude.{◌≡◌, ◌∷◌, []};
 ghost use Rattle.byte_system.specs.Files.{Shows};

@@ -32,7 +32,7 @@ pub struct HostSystem<'a> {
 }
 
 impl<'a> HostSystem<'a> {
-    /// The files of the system, of which none is open. A few can be opened without more memory.
+    /// The files of the system; none is open yet. A few can be opened without more memory.
     pub fn new(alloc: Global, rt: &'a HostRuntime) -> Result<HostSystem<'a>, AllocError>
         ensures { IfOk result (λ s. ⟦<HostSystem<'a> as System>⟧.state s ≡ record { me = 0; first = None; trace = [] }) }
     {

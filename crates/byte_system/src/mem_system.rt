@@ -1,4 +1,4 @@
-//! A system in memory, for tests. Other processes act between its calls as they are told to, and calls fail as they are told to.
+//! A system in memory, for tests. Between its calls other processes act as a test plans it, and calls fail as it plans it.
 
 ghost use Rattle.std.specs.Prelude.{◌≡◌, [], Some};
 ghost use Rattle.byte_system.specs.Disk.{no_files};

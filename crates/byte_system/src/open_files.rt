@@ -95,7 +95,7 @@ impl Files {
         Ok(false)
     }
 
-    /// A call that is told to fail writes half of the bytes.
+    /// A call that a test lets fail writes half of the bytes.
     pub(crate) fn write(&mut self, by: usize, file: usize, bytes: &[u8], works: bool) -> usize
         ensures { self.new.trail.events ≡ record { by = by; call = write_call file bytes.now result } ∷ self.old.trail.events }
     {

@@ -37,7 +37,7 @@ pub fn change_of<Q: Place, P: Place + Drop, C: Change>(
     change_in(rt, matches, desk, target, command, false)
 }
 
-// The same; if it tells, the last sentence says what the change brought.
+// The same; with `tells`, the last sentence says what the change brought.
 fn change_in<Q: Place, P: Place + Drop, C: Change>(
     rt: &HostRuntime,
     matches: &ArgMatches<'_>,

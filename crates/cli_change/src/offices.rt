@@ -6,11 +6,14 @@ ghost use Rattle.cli_open.specs.Offices.{office_made, IsClosed};
 ghost use Rattle.cli_change.specs.Desks.{IsDesk};
 
 use clap::ArgMatches;
-use cli_open::engines::places::{FileId, FilePlace, Place, own_path};
+use cli_open::engines::places::{FileId, Place, own_path};
 use cli_open::engines::streams::Writing;
 use cli_open::engines::{CliFault, OutFault};
-use cli_open::guards::{NewStdPlace, OfficeFile, run_office};
-use cli_open::{OpenOffice, office_at, office_file, open_office, parts, real_path, replica, word};
+use cli_open::guards::{OfficeFile, run_office};
+use cli_open::{
+    HostSystem, NewPlace, OpenOffice, OutPlace, office_at, office_file, open_office, parts,
+    real_path, replica, word,
+};
 use std::alloc::{AllocError, Global};
 use std::io::ErrorKind;
 use std::os::fd::AsFd;
@@ -86,7 +89,7 @@ pub fn open_desk<'a>(
     alloc: Global,
     named: Option<Uuid>,
     path: &'a str,
-) -> Result<Desk<FilePlace<'a, HostRuntime>>, CliFault>
+) -> Result<Desk<OutPlace<'a>>, CliFault>
     ensures { IfOk result (λ desk. IsDesk named desk) }
 {
     match named {
@@ -103,7 +106,7 @@ fn desk_at<'a>(
     rt: &'a HostRuntime,
     alloc: Global,
     path: &'a str,
-) -> Result<Desk<FilePlace<'a, HostRuntime>>, CliFault>
+) -> Result<Desk<OutPlace<'a>>, CliFault>
     ensures { IfOk result (λ desk. IsDesk None desk) }
 {
     match open_office(rt, alloc, path) {
@@ -257,7 +260,10 @@ pub fn office(rt: &HostRuntime, matches: &ArgMatches<'_>) -> Result<(), CliFault
     if rt.fill_bytes(&mut random).is_err() {
         return Err(CliFault::Out(OutFault::NotOpened));
     }
-    let mut place = NewStdPlace::new(rt, path);
+    let Ok(system) = HostSystem::new(rt.alloc(), rt) else {
+        return Err(CliFault::Memory);
+    };
+    let mut place = NewPlace::new(system, path.as_bytes());
     let mut sink = Writing::new(io::writer(rt));
     let answer = run_office(rt.alloc(), random, &mut place, &mut sink);
     drop(place);

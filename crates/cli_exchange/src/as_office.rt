@@ -12,7 +12,7 @@ use cli_open::{
 use reg_take::{TakeEffect, run_take, try_take};
 use std::io::{self, Write};
 
-/// Joins the files to the register, and prints what changed. The office file is told which of its numbers stand in the register.
+/// Joins the files to the register, and prints what changed. The office file then says which of its numbers stand in the register.
 pub fn take_as<S: LateSource>(
     rt: &HostRuntime,
     matches: &ArgMatches<'_>,

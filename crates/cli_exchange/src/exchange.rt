@@ -3,12 +3,11 @@ use crate::brought::say_merged;
 use clap::ArgMatches;
 use cli_faults::{CommandFiles, CommandName};
 use cli_open::engines::disks::NewFile;
-use cli_open::engines::places::FilePlace;
 use cli_open::engines::shelf::is_size;
 use cli_open::engines::{CliFault, Refusal, ShelfProblem};
 use cli_open::{
-    OpenedRegister, Replaced, explains, give_of, lock_new_shelf, next_file, open, open_all,
-    open_inputs, open_register, open_shelf, open_to_read, parts, place, reserve, word,
+    OpenedRegister, OutPlace, Replaced, explains, give_of, lock_new_shelf, next_file, open,
+    open_all, open_inputs, open_register, open_shelf, open_to_read, parts, place, reserve, word,
 };
 use reg_commands::{
     FirstVersion, PieceFor, SeenFile, Whole, run_merge, run_merge_on, run_new, run_shelf,
@@ -75,7 +74,7 @@ fn place_over<'a>(
     rt: &'a HostRuntime,
     out: &'a str,
     inputs: &[&str],
-) -> Result<FilePlace<'a, HostRuntime>, CliFault> {
+) -> Result<OutPlace<'a>, CliFault> {
     let mut place = place(rt, rt.alloc(), out)?;
     reserve(rt, &mut place, out, inputs)?;
     Ok(place)

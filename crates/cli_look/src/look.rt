@@ -231,7 +231,7 @@ pub fn diff(rt: &HostRuntime, matches: &ArgMatches<'_>) -> Outcome<CliFault, Cli
     outcome_of(rt.alloc(), tells(matches), merged(rt, matches))
 }
 
-// The outcome of a comparison. The exit status tells a difference if it is asked to.
+// The outcome of a comparison. The exit status shows a difference if it is asked to.
 fn outcome_of(
     alloc: Global,
     asked: bool,
@@ -259,7 +259,7 @@ pub fn say_hidden(rt: &HostRuntime, found: &Comparison, named: &Option<CommandFi
     }
 }
 
-/// Whether the exit status tells that something differs.
+/// Whether the exit status shows that something differs.
 pub fn tells(matches: &ArgMatches<'_>) -> bool {
     matches.get_flag("exit-code")
 }

@@ -29,6 +29,7 @@ pub use words::{
 };
 
 // The crates of which the commands above use items, so that they need only this one.
+pub use byte_place::{HostSystem, NewPlace, OutPlace};
 pub use office_names::{Name, named};
 pub use reg_guard as guards;
 pub use reg_guard::engine as engines;

@@ -3,13 +3,16 @@
 ghost use Rattle.std.specs.Prelude.{◌≡◌, IfOk, OnOk, None, true};
 ghost use Rattle.byte_io.specs.Device.{target_of};
 ghost use Rattle.byte_out.specs.Place.{untold};
+ghost use Rattle.byte_place.specs.Ways.{is_beside};
 ghost use Rattle.reg_journal.specs.Text.{FindsOffice};
 ghost use Rattle.cli_open.specs.Offices.{Makes, MakesNone};
 
 use crate::waiting::patience;
+use crate::words::place;
 use byte_io::{LateFile, LateSource};
+use byte_place::OutPlace;
 use reg_guard::engine::CliFault;
-use reg_guard::engine::places::{FilePlace, Place};
+use reg_guard::engine::places::Place;
 use reg_guard::{OfficeFile, busy, lock_office, office_in, unopened};
 use std::alloc::Global;
 use std::fs;
@@ -28,16 +31,14 @@ pub fn open_office<'a>(
     rt: &'a HostRuntime,
     alloc: Global,
     path: &'a str,
-) -> Result<OpenOffice<FilePlace<'a, HostRuntime>>, CliFault>
-    ensures made { IfOk result (λ office. Makes (untold (target_of None)) (⟦<FilePlace<'a, HostRuntime> as Place>⟧.state office.place)) }
-    ensures beside { IfOk result (λ office. office.place.is_beside ≡ true) }
+) -> Result<OpenOffice<OutPlace<'a>>, CliFault>
+    ensures made { IfOk result (λ office. Makes (untold (target_of None)) (⟦<OutPlace<'a> as Place>⟧.state office.place)) }
+    ensures beside { IfOk result (λ office. is_beside office.place.place.way ≡ true) }
 {
     if has_second_name(rt, path) {
         return Err(unopened());
     }
-    let Ok(mut place) = FilePlace::new(alloc, rt, path, None) else {
-        return Err(CliFault::Memory);
-    };
+    let mut place = place(rt, alloc, path)?;
     match read_locked(rt, alloc, &mut place, &mut LateFile::new(rt, path)) {
         Ok(file) => Ok(OpenOffice { file, place }),
         Err(fault) => {
@@ -52,13 +53,13 @@ pub fn open_office<'a>(
 fn read_locked<'a, S: LateSource>(
     rt: &HostRuntime,
     alloc: Global,
-    place: &mut FilePlace<'a, HostRuntime>,
+    place: &mut OutPlace<'a>,
     source: &mut S,
 ) -> Result<OfficeFile, CliFault>
-    ensures made { OnOk result (Makes (⟦<FilePlace<'a, HostRuntime> as Place>⟧.state place.old) (⟦<FilePlace<'a, HostRuntime> as Place>⟧.state place.new)) }
-    ensures beside { OnOk result (place.new.is_beside ≡ true) }
+    ensures made { OnOk result (Makes (⟦<OutPlace<'a> as Place>⟧.state place.old) (⟦<OutPlace<'a> as Place>⟧.state place.new)) }
+    ensures beside { OnOk result (is_beside place.new.place.way ≡ true) }
     ensures found { IfOk result (FindsOffice (S.state source.old) (S.state source.new)) }
-    ensures unread { MakesNone (⟦<FilePlace<'a, HostRuntime> as Place>⟧.state place.old) (⟦<FilePlace<'a, HostRuntime> as Place>⟧.state place.new) → S.state source.new ≡ S.state source.old }
+    ensures unread { MakesNone (⟦<OutPlace<'a> as Place>⟧.state place.old) (⟦<OutPlace<'a> as Place>⟧.state place.new) → S.state source.new ≡ S.state source.old }
 {
     if place.reserve(patience(rt)?).is_err() {
         return Err(busy());

@@ -9,9 +9,10 @@ use crate::offices::OpenOffice;
 use crate::shelves::open_shelf;
 use crate::waiting::reserve;
 use crate::words::{changed_place, files_before, word};
+use byte_place::OutPlace;
 use clap::ArgMatches;
 use reg_guard::engine::disks::FileDisk;
-use reg_guard::engine::places::{FilePlace, InputOf};
+use reg_guard::engine::places::InputOf;
 use reg_guard::engine::streams::Reading;
 use reg_guard::engine::{CliFault, Either, InFile, OnShelf};
 use reg_guard::{GuardedFile, GuardedShelf, OfficeFile};
@@ -114,7 +115,7 @@ pub fn open_target<'a>(
     rt: &'a HostRuntime,
     matches: &ArgMatches<'_>,
     out: &'a str,
-) -> Result<RegisterTarget<File, FilePlace<'a, HostRuntime>>, CliFault> {
+) -> Result<RegisterTarget<File, OutPlace<'a>>, CliFault> {
     let register = word(matches, "REG");
     if matches.get_flag("shelf") {
         let disk = open_shelf(rt, register)?;

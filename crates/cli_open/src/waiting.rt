@@ -1,5 +1,6 @@
 //! The new file of OUT, if a command reads OUT too. It is made before OUT is opened, so commands on one file go one after another.
-use reg_guard::engine::places::{FileId, FilePlace};
+use byte_place::OutPlace;
+use reg_guard::engine::places::FileId;
 use reg_guard::engine::{CliFault, OutFault};
 use std::env::{self, VarError};
 use std::time::Duration;
@@ -24,7 +25,7 @@ pub fn patience(rt: &HostRuntime) -> Result<Duration, CliFault> {
 /// wait meanwhile, and this one waits for them.
 pub fn reserve(
     rt: &HostRuntime,
-    place: &mut FilePlace<'_, HostRuntime>,
+    place: &mut OutPlace<'_>,
     out: &str,
     inputs: &[&str],
 ) -> Result<(), CliFault> {

@@ -2,21 +2,23 @@
 
 ghost use Rattle.std.specs.Prelude.{◌≡◌, ◌↔◌, ◌<◌, Some, None, IfOk, IfErr, IsTrue};
 ghost use Rattle.std.specs.List.{count_by};
+ghost use Rattle.byte_io.specs.Device.{target_of};
+ghost use Rattle.byte_out.specs.Place.{untold};
 ghost use Rattle.uuid.specs.Text.{parsed};
 ghost use Rattle.cli_open.specs.Used.{used_office};
 ghost use Rattle.cli_open.specs.Words.{is_dash};
 
+use byte_place::OutPlace;
 use clap::ArgMatches;
 use clap::parser::ValueSource;
 use reg_guard::engine::files::MAX_FILE;
 use reg_guard::engine::operations::OpId;
-use reg_guard::engine::places::{FileId, FilePlace, Lockable};
+use reg_guard::engine::places::{FileId, Place};
 use reg_guard::engine::streams::{InFault, Reading, read_up_to};
 use reg_guard::engine::{CliFault, InputFault, Refusal};
 use reg_query::Wanted;
 use std::alloc::{AllocError, Global};
 use std::fs;
-use std::os::fd::AsFd;
 use std::rt::Files;
 use uuid::Uuid;
 
@@ -232,55 +234,47 @@ pub fn is_twice(paths: &[&str]) -> bool
 }
 
 /// The place of an output file, which is not open yet.
-pub fn place<'a, R: Files>(
-    rt: &'a R,
+pub fn place<'a>(
+    rt: &'a HostRuntime,
     alloc: Global,
     path: &'a str,
-) -> Result<FilePlace<'a, R>, CliFault>
-where
-    R::File: AsFd + Lockable,
+) -> Result<OutPlace<'a>, CliFault>
+    ensures { IfOk result (λ p. ⟦<OutPlace<'a> as Place>⟧.state p ≡ untold (target_of None)) }
 {
-    place_beside(rt, alloc, path, None)
+    place_of(rt, alloc, path, None)
 }
 
 /// The place of the output file of a command that also prints. It cannot be the file that standard output goes to.
-pub fn printing_place<'a, R: Files>(
-    rt: &'a R,
+pub fn printing_place<'a>(
+    rt: &'a HostRuntime,
     alloc: Global,
     path: &'a str,
-) -> Result<FilePlace<'a, R>, CliFault>
-where
-    R::File: AsFd + Lockable,
-{
-    place_beside(rt, alloc, path, FileId::at(rt, STANDARD_OUTPUT_PATH))
+) -> Result<OutPlace<'a>, CliFault> {
+    place_of(rt, alloc, path, FileId::at(rt, STANDARD_OUTPUT_PATH))
 }
 
 /// OUT of a command that prints lines, unless it is quiet.
-pub fn changed_place<'a, R: Files>(
-    rt: &'a R,
+pub fn changed_place<'a>(
+    rt: &'a HostRuntime,
     alloc: Global,
     path: &'a str,
     is_quiet: bool,
-) -> Result<FilePlace<'a, R>, CliFault>
-where
-    R::File: AsFd + Lockable,
-{
+) -> Result<OutPlace<'a>, CliFault> {
     if is_quiet {
         return place(rt, alloc, path);
     }
     printing_place(rt, alloc, path)
 }
 
-fn place_beside<'a, R: Files>(
-    rt: &'a R,
+fn place_of<'a>(
+    rt: &'a HostRuntime,
     alloc: Global,
     path: &'a str,
     printed: Option<FileId>,
-) -> Result<FilePlace<'a, R>, CliFault>
-where
-    R::File: AsFd + Lockable,
+) -> Result<OutPlace<'a>, CliFault>
+    ensures { IfOk result (λ p. ⟦<OutPlace<'a> as Place>⟧.state p ≡ untold (target_of None)) }
 {
-    match FilePlace::new(alloc, rt, path, printed) {
+    match OutPlace::new(alloc, rt, path, printed) {
         Ok(place) => Ok(place),
         Err(_) => Err(CliFault::Memory),
     }

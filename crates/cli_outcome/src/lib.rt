@@ -1,4 +1,4 @@
-//! How a command ends: what is told of it on standard error, and its exit status.
+//! How a command ends: what is reported of it on standard error, and its exit status.
 #![tactic(auto)]
 
 mod outcome;

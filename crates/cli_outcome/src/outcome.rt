@@ -10,7 +10,7 @@ use std::alloc::Global;
 pub struct Done<L, B> {
     /// What it left out, in order.
     pub left: Vec<L>,
-    /// Whether it found a difference that the exit status tells.
+    /// Whether it found a difference that the exit status shows.
     pub differs: bool,
     /// What it brought.
     pub brought: B,
@@ -25,7 +25,7 @@ pub enum NotDone<'m, F> {
 }
 
 /// How a command ended whose faults are of the first kind, and which leaves things of the second kind out. It brought something of the
-/// third kind, to be told at the end.
+/// third kind, to be reported at the end.
 pub type Outcome<F, L = F, B = ()> = Result<Done<L, B>, NotDone<'static, F>>;
 
 /// A command that is done, left nothing out, and brought this.
@@ -41,7 +41,7 @@ pub fn all_done<L, B>(alloc: Global, brought: B) -> Done<L, B>
     }
 }
 
-// Whether the exit status tells a difference: if it is asked to.
+// Whether the exit status shows a difference: if it is asked to.
 fn is_told(asked: bool, differs: bool) -> bool
     ensures { result ≡ asked && differs }
 {
@@ -51,7 +51,7 @@ fn is_told(asked: bool, differs: bool) -> bool
     false
 }
 
-/// A command that is done, left nothing out, and brought this. It found a difference or not, which the exit status tells if it is asked
+/// A command that is done, left nothing out, and brought this. It found a difference or not, which the exit status shows if it is asked
 /// to.
 pub fn difference<L, B>(alloc: Global, asked: bool, differs: bool, brought: B) -> Done<L, B>
     ensures left { result.left.items ≡ [] }
@@ -75,7 +75,7 @@ pub fn ended<F, L>(alloc: Global, answer: Result<(), F>) -> Outcome<F, L>
     }
 }
 
-/// The outcome of a command that found a difference or not, or has a fault. The exit status tells the difference if it is asked to.
+/// The outcome of a command that found a difference or not, or has a fault. The exit status shows the difference if it is asked to.
 pub fn compared<F, L>(alloc: Global, asked: bool, answer: Result<bool, F>) -> Outcome<F, L>
     ensures { IsCompared asked answer result }
 {

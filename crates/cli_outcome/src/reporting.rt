@@ -1,4 +1,4 @@
-//! Tells how a command ended.
+//! Reports how a command ended.
 
 ghost use Rattle.std.specs.Prelude.{◌≡◌, ◌↔◌, IsOk};
 ghost use Rattle.cli_outcome.specs.Outcome.{TellsEach, TellsDone, Tells, left_out_status, whole_status, done_status, exit_status, IsAllDone, TellsAnswer, answer_status};
@@ -12,7 +12,7 @@ const MISUSE: u8 = 2;
 /// The exit status for a difference.
 const DIFFERS: u8 = 1;
 
-// Tells that each of these was left out.
+// Reports that each of these was left out.
 fn tell_each<F, L, B, T: Teller<F, L, B>>(teller: &mut T, left: &[L])
     ensures { TellsEach T.tells_left left.now teller.old teller.new }
 {
@@ -21,7 +21,7 @@ fn tell_each<F, L, B, T: Teller<F, L, B>>(teller: &mut T, left: &[L])
     }
 }
 
-// Tells what was left out, and returns the exit status of the first. None if nothing was.
+// Reports what was left out, and returns the exit status of the first. None if nothing was.
 fn tell_left<F, L, B, T: Teller<F, L, B>>(teller: &mut T, left: &[L]) -> Option<u8>
     ensures told { TellsEach T.tells_left left.now teller.old teller.new }
     ensures status { result ≡ left_out_status T.left_status left.now }
@@ -44,7 +44,7 @@ fn whole_status(differs: bool) -> u8
     0
 }
 
-// Tells what a command did that is done, and returns its exit status.
+// Reports what a command did that is done, and returns its exit status.
 fn tell_done<F, L, B, T: Teller<F, L, B>>(teller: &mut T, done: &Done<L, B>) -> u8
     ensures told { TellsDone T.tells_left T.tells_brought done.now teller.old teller.new }
     ensures status { result ≡ done_status T.left_status done.now }
@@ -57,7 +57,7 @@ fn tell_done<F, L, B, T: Teller<F, L, B>>(teller: &mut T, done: &Done<L, B>) -> 
     }
 }
 
-/// Tells how a command ended, and returns its exit status.
+/// Reports how a command ended, and returns its exit status.
 pub fn report<F: Drop, L: Drop, B: Drop, T: Teller<F, L, B>>(
     teller: &mut T,
     outcome: Result<Done<L, B>, NotDone<'_, F>>,

@@ -1,6 +1,6 @@
-//! Where the end of a command is told.
+//! Where the end of a command is reported.
 
-/// Where the end of a command is told: standard error, or a list in a test. A relation holds from before a call to after it.
+/// Where the end of a command is reported: standard error, or a list in a test. A relation holds from before a call to after it.
 pub trait Teller<F, L, B> {
     ghost use Rattle.std.specs.Prelude.{◌≡◌, ℕ, List};
 
@@ -10,33 +10,33 @@ pub trait Teller<F, L, B> {
     /// The exit status for something that was left out.
     ghost left_status: { L → ℕ };
 
-    /// This fault was told.
+    /// This fault was reported.
     ghost tells_fault: { Self → F → Self → Type 0 };
 
-    /// It was told that this was left out.
+    /// It was reported that this was left out.
     ghost tells_left: { Self → L → Self → Type 0 };
 
-    /// It was told that this was brought.
+    /// It was reported that this was brought.
     ghost tells_brought: { Self → B → Self → Type 0 };
 
-    /// It was told in these words that the command line is wrong.
+    /// It was reported in these words that the command line is wrong.
     ghost tells_misuse: { Self → List ℕ → Self → Type 0 };
 
-    /// Tells a fault, and returns its exit status.
+    /// Reports a fault, and returns its exit status.
     fn fault(&mut self, fault: &F) -> u8
         ensures told { tells_fault self.old fault.now self.new }
         ensures status { result ≡ fault_status fault.now };
 
-    /// Tells that this was left out, and returns its exit status.
+    /// Reports that this was left out, and returns its exit status.
     fn left(&mut self, left: &L) -> u8
         ensures told { tells_left self.old left.now self.new }
         ensures status { result ≡ left_status left.now };
 
-    /// Tells what was brought.
+    /// Reports what was brought.
     fn brought(&mut self, brought: &B)
         ensures { tells_brought self.old brought.now self.new };
 
-    /// Tells that the command line is wrong.
+    /// Reports that the command line is wrong.
     fn misuse(&mut self, line: &str)
         ensures { tells_misuse self.old line.now self.new };
 

@@ -12,8 +12,8 @@ use std::alloc::{AllocError, Global};
 use std::mem::forget;
 
 /// Loads the register, reads the rows that were looked at before from the file after it, and writes the other rows of the entries
-/// that are not retired and break one of the rules. Returns whether there are any. The memory of what it has read is not freed, since
-/// the process ends behind it.
+/// that are not retired and break one of the rules. Returns whether there are any. The register is freed before the rules are looked
+/// at. What is kept of its entries is not freed, since the process ends behind it.
 pub fn run_lint<T: Store, S: Source, K: Sink>(
     alloc: Global,
     store: &mut T,
@@ -34,10 +34,10 @@ pub fn run_lint<T: Store, S: Source, K: Sink>(
         Ok(kept) => kept,
         Err(_) => return Err(CliFault::Memory),
     };
+    drop(register);
     match run_lint_kept(alloc, &kept, rules, next, known, sink) {
         Ok(any) => {
             forget(kept);
-            forget(register);
             Ok(any)
         }
         Err(fault) => Err(fault),

@@ -147,7 +147,7 @@ fn named<'a>(
     Ok(Some(named))
 }
 
-// Runs the command, and tells how it ended, if clap passed only words that it knows. Returns the exit status.
+// Runs the command, and reports how it ended, if clap passed only words that it knows. Returns the exit status.
 fn perform(
     rt: &HostRuntime,
     name: CommandName,

@@ -1,4 +1,4 @@
-//! What standard error tells of faults, of what was left out, and of what was brought.
+//! What standard error reports of faults, of what was left out, and of what was brought.
 use crate::telling::{Said, SaidLast, StandardError};
 use cli_exchange::faults::sentences::{KeyTaken, LEAVES_OUT, Shown, SpecialCommand};
 use cli_exchange::faults::{CommandFiles, SecondLook, add, explain, explain_word, say};
@@ -76,7 +76,7 @@ impl Said for NotImported {
 
     ghost is_no_success = { λ n. import_is_no_success n.why.fault };
 
-    // A refused text is told before what the others brought, another fault after it.
+    // A refused text is printed before what the others brought, another fault after it.
     fn say(&self, to: &StandardError<'_, '_>) -> u8 {
         if is_refused(&self.why.fault) {
             let status = self.why.say(to);

@@ -1,4 +1,4 @@
-//! Standard error, where the end of a command is told.
+//! Standard error, where the end of a command is printed.
 
 use clap::ArgMatches;
 use cli_exchange::faults::CommandFiles;
@@ -20,14 +20,14 @@ impl StandardError<'_, '_> {
     }
 }
 
-/// A fault, or something that was left out, as it is told.
+/// A fault, or something that was left out, as it is printed.
 pub trait Said {
     ghost use Rattle.std.specs.Prelude.{◌≡◌, ℕ};
 
     /// Its exit status.
     ghost status: { Self → ℕ };
 
-    /// Tells it, and returns its exit status.
+    /// Prints it, and returns its exit status.
     fn say(&self, to: &StandardError<'_, '_>) -> u8
         ensures { result ≡ status self.now };
 
@@ -35,12 +35,12 @@ pub trait Said {
     ghost is_no_success: { (said : Self) → ¬ (status said ≡ 0) };
 }
 
-/// What a command brought, as it is told at the end.
+/// What a command brought, as it is printed at the end.
 pub trait SaidLast {
     fn say_last(&self, to: &StandardError<'_, '_>);
 }
 
-// The end of a command: `report` of `cli_outcome` decides what is told, and in which order.
+// The end of a command: `report` of `cli_outcome` decides what is printed, and in which order.
 impl<F: Said, L: Said, B: SaidLast> Teller<F, L, B> for StandardError<'_, '_> {
     ghost fault_status = { F.status };
 

@@ -11,7 +11,7 @@ use Rattle.reg_import.specs.declared.reading.FileText.{FileText}
 use Rattle.reg_import.specs.declared.action.TextAction.{TextAction}
 use Rattle.reg_import.specs.Readings.{is_unread, readings}
 use Rattle.reg_desk.specs.declared.import.texts.FileCut.{FileCut}
-use Rattle.reg_desk.specs.ImportTexts.{TextAt, text_at, in_file, AreCuts, AreRead, AreGiven, OneMore, ReadsFile}
+use Rattle.reg_desk.specs.ImportTexts.{TextAt, text_at, in_file, AreCuts, AreRead, AreGiven, kept_if, OneMore, ReadsFile}
 use Rattle.reg_desk.specs.ImportNotes.{notes_of}
 
 -- ---- files
@@ -55,17 +55,30 @@ any_behind (t ∷ ts) texts h = or_right (is_unread t.reading) _ (any_behind ts 
 
 -- ---- the texts of a file
 
--- the texts before this place were appended, with their readings, and the rest of the file is to be cut from here
-pub record SoFar (file : ℕ) (bytes : List ℕ) (place : ℕ) (rest : List ℕ) (old new : List TextAt) (before after : List FileText) : Type 0 where
+pub all_kept : (xs : List TextAt) → kept_if true xs ≡ xs
+all_kept [] = refl
+all_kept (x ∷ xs) = refl
+
+none_kept : (xs : List TextAt) → kept_if false xs ≡ []
+none_kept [] = refl
+none_kept (x ∷ xs) = refl
+
+pub kept_append : (explain : Bool) (xs ys : List TextAt) → kept_if explain (xs ++ ys) ≡ kept_if explain xs ++ kept_if explain ys
+kept_append explain [] ys = refl
+kept_append true (x ∷ xs) ys = ap (λ l. x ∷ (xs ++ l)) (sym (all_kept ys))
+kept_append false (x ∷ xs) ys = sym (none_kept ys)
+
+-- the texts before this place were appended, if they are explained, and their readings, and the rest of the file is to be cut from here
+pub record SoFar (explain : Bool) (file : ℕ) (bytes : List ℕ) (place : ℕ) (rest : List ℕ) (old new : List TextAt) (before after : List FileText) : Type 0 where
   pub these : List Piece
   pub texts : List FileText
   pub so_far : (more : List Piece) → AreTexts place rest more → IsCutInto bytes (these ++ more)
   pub read : AreRead (map (in_file file) these) texts
-  pub cuts : new ≡ old ++ map (in_file file) these
+  pub cuts : new ≡ old ++ kept_if explain (map (in_file file) these)
   pub told : after ≡ before ++ texts
 
-module _ (file : ℕ) (bytes : List ℕ) (old : List TextAt) (before : List FileText) where
-  pub none_yet : (place : ℕ) (rest : List ℕ) → place ≡ begin bytes → rest ≡ drop place bytes → SoFar file bytes place rest old old before before
+module _ (explain : Bool) (file : ℕ) (bytes : List ℕ) (old : List TextAt) (before : List FileText) where
+  pub none_yet : (place : ℕ) (rest : List ℕ) → place ≡ begin bytes → rest ≡ drop place bytes → SoFar explain file bytes place rest old old before before
   none_yet place rest at is = record {
     these = [];
     texts = [];
@@ -75,22 +88,22 @@ module _ (file : ℕ) (bytes : List ℕ) (old : List TextAt) (before : List File
     told = sym (append-nil before);
   }
 
-  module _ (keep_going : Bool) (place : ℕ) (rest later : List ℕ) (p : Piece) (ends : Bool) (new after : List TextAt) (read told : List FileText) (s : SoFar file bytes place rest old new before read)
-      (next : IsNext place rest p later) (one : OneMore keep_going file p ends new after read told) where
-    abbrev pub one_more : SoFar file bytes (p.place + length p.bytes) later old after before told
+  module _ (keep_going : Bool) (place : ℕ) (rest later : List ℕ) (p : Piece) (ends : Bool) (new after : List TextAt) (read told : List FileText) (s : SoFar explain file bytes place rest old new before read)
+      (next : IsNext place rest p later) (one : OneMore keep_going explain file p ends new after read told) where
+    abbrev pub one_more : SoFar explain file bytes (p.place + length p.bytes) later old after before told
     one_more = record {
       these = s.these ++ p ∷ [];
       texts = s.texts ++ one.text ∷ [];
       so_far = λ more h. subst (IsCutInto bytes) (sym (append_assoc s.these (p ∷ []) more)) (s.so_far (p ∷ more) (later, next, h));
       read = subst (λ l. AreRead l (s.texts ++ one.text ∷ [])) (sym (map-append (in_file file) s.these (p ∷ [])))
           (both_read (map (in_file file) s.these) (in_file file p ∷ []) s.texts (one.text ∷ []) s.read (one.read, tt));
-      cuts = one.cuts ∙ ap (λ l. l ++ in_file file p ∷ []) s.cuts ∙ append_assoc old (map (in_file file) s.these) (in_file file p ∷ [])
-          ∙ ap (λ l. old ++ l) (sym (map-append (in_file file) s.these (p ∷ [])));
+      cuts = one.cuts ∙ ap (λ l. l ++ kept_if explain (in_file file p ∷ [])) s.cuts ∙ append_assoc old (kept_if explain (map (in_file file) s.these)) (kept_if explain (in_file file p ∷ []))
+          ∙ ap (λ l. old ++ l) (sym (kept_append explain (map (in_file file) s.these) (in_file file p ∷ [])) ∙ ap (kept_if explain) (sym (map-append (in_file file) s.these (p ∷ []))));
       told = one.texts ∙ ap (λ l. l ++ one.text ∷ []) s.told ∙ append_assoc before s.texts (one.text ∷ []);
     }
 
     -- the import ends at this text
-    pub ends_here : ends ≡ true → ReadsFile keep_going file bytes true old after before told
+    pub ends_here : ends ≡ true → ReadsFile keep_going explain file bytes true old after before told
     ends_here e =
         let now = one_more in
         let behind = some_texts (p.place + length p.bytes) later in
@@ -108,8 +121,8 @@ module _ (file : ℕ) (bytes : List ℕ) (old : List TextAt) (before : List File
         }
 
   -- the file has no more texts
-  pub file_done : (keep_going : Bool) (place : ℕ) (rest : List ℕ) (new : List TextAt) (told : List FileText) → SoFar file bytes place rest old new before told → AllPass is_blank rest
-      → ReadsFile keep_going file bytes false old new before told
+  pub file_done : (keep_going : Bool) (place : ℕ) (rest : List ℕ) (new : List TextAt) (told : List FileText) → SoFar explain file bytes place rest old new before told → AllPass is_blank rest
+      → ReadsFile keep_going explain file bytes false old new before told
   file_done keep_going place rest new told s blank = record {
     these = s.these;
     later = [];
@@ -124,26 +137,33 @@ module _ (file : ℕ) (bytes : List ℕ) (old : List TextAt) (before : List File
 
 -- ---- the texts of all files
 
-module _ (files : List (List ℕ)) (file : ℕ) (rest others : List (List ℕ)) (bytes : List ℕ) (keep_going ends : Bool) (old new : List TextAt) (before after : List FileText) (is : rest ≡ bytes ∷ others)
-    (done : CutsComplete files file rest old) (read : AreRead old before) (r : ReadsFile keep_going file bytes ends old new before after) where
-  pub next_read : AreRead new after
-  next_read = subst (λ l. AreRead l after) (sym r.cuts) (subst (AreRead (old ++ map (in_file file) r.these)) (sym r.told) (both_read old (map (in_file file) r.these) before r.texts read r.read))
+module _ (files : List (List ℕ)) (file : ℕ) (rest others : List (List ℕ)) (bytes : List ℕ) (keep_going explain ends : Bool) (old kept new : List TextAt) (before after : List FileText) (is : rest ≡ bytes ∷ others)
+    (done : CutsComplete files file rest old) (read : AreRead old before) (r : ReadsFile keep_going explain file bytes ends kept new before after) where
+  -- with those of this file
+  abbrev pub with_these : List TextAt
+  with_these = old ++ map (in_file file) r.these
 
-  pub next_cut : ends ≡ false → CutsComplete files (file + 1) others new
+  pub next_read : AreRead with_these after
+  next_read = subst (AreRead with_these) (sym r.told) (both_read old (map (in_file file) r.these) before r.texts read r.read)
+
+  pub next_kept : kept ≡ kept_if explain old → new ≡ kept_if explain with_these
+  next_kept e = r.cuts ∙ ap (λ l. l ++ kept_if explain (map (in_file file) r.these)) e ∙ sym (kept_append explain old (map (in_file file) r.these))
+
+  pub next_cut : ends ≡ false → CutsComplete files (file + 1) others with_these
   next_cut e =
       let whole : r.these ++ r.later ≡ r.these = ap (λ l. r.these ++ l) (r.all e) ∙ append-nil r.these in
-      cuts_more files file rest others bytes r.these old new is (subst (IsCutInto bytes) whole r.cut) r.cuts done
+      cuts_more files file rest others bytes r.these old with_these is (subst (IsCutInto bytes) whole r.cut) refl done
 
-  pub ends_given : ends ≡ true → AreGiven keep_going files new after
+  pub ends_given : ends ≡ true → AreGiven keep_going files with_these after
   ends_given e =
       let more = some_cuts (file + 1) others in
       let front : List TextAt = map (in_file file) r.these in
       let back : List TextAt = map (in_file file) r.later ++ more.0 in
       let here : AreCuts file rest (map (in_file file) (r.these ++ r.later) ++ more.0) =
       subst (λ l. AreCuts file l (map (in_file file) (r.these ++ r.later) ++ more.0)) (sym is) (r.these ++ r.later, more.0, r.cut, more.1, refl) in
-      let same : old ++ (map (in_file file) (r.these ++ r.later) ++ more.0) ≡ new ++ back =
+      let same : old ++ (map (in_file file) (r.these ++ r.later) ++ more.0) ≡ with_these ++ back =
       ap (λ l. old ++ (l ++ more.0)) (map-append (in_file file) r.these r.later) ∙ ap (λ l. old ++ l) (append_assoc front (map (in_file file) r.later) more.0)
-      ∙ sym (append_assoc old front back) ∙ ap (λ l. l ++ back) (sym r.cuts) in
+      ∙ sym (append_assoc old front back) in
       inr (
         (r.unread e).0,
         record {

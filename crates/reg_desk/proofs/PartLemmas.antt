@@ -4,8 +4,6 @@ use Rattle.std.specs.declared.option.Option.{Option}
 use Rattle.std.specs.Io.KnownBytes.{Consumes}
 use Rattle.byte_io.specs.Device.{SourceState}
 use Rattle.reg_op.specs.Contents.{Content}
-use Rattle.reg_engine.specs.declared.fault.Refusal.TheVariants as refusal
-use Rattle.reg_engine.specs.declared.fault.CliFault.TheVariants as cli
 use Rattle.reg_engine.specs.Inputs.{NoneFails}
 
 -- ---- files that were read

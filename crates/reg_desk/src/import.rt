@@ -10,6 +10,7 @@ mod notes;
 mod options;
 mod ready;
 mod room;
+mod telling;
 mod texts;
 
 pub use engine::{run_import, try_import};

@@ -19,7 +19,7 @@ use reg_state::Register;
 use std::alloc::Global;
 
 /// Makes the register's file ready, replaces the office file by the next one, and then the register's file, unless that was read
-/// and has changed. If it was read, the office file is then told that its last number stands in a register.
+/// and has changed. If it was read, the office file then notes that its last number stands in a register.
 pub(crate) fn publish_after<P: Place, Q: Place>(
     alloc: Global,
     file: &OfficeFile,

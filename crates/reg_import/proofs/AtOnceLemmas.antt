@@ -23,7 +23,7 @@ use Rattle.reg_op.specs.Contents.{Content, IsContent}
 use Rattle.reg_op.specs.Rows.{Row, rows}
 use Rattle.reg_report.proofs.ConflictLemmas.{in_head, in_tail}
 use Rattle.reg_office.specs.declared.fault.OfficeFault.TheVariants as fault
-use Rattle.reg_office.specs.Making.{greatest, objections, else_next, note_fault, is_spent, made_unless, new_ops, made}
+use Rattle.reg_office.specs.Making.{greatest, objections, else_next, is_spent, made_unless, new_ops, made}
 use Rattle.reg_import.specs.declared.standing_entry.StandingEntry.{StandingEntry}
 use Rattle.reg_import.specs.declared.reading.ReadText.{ReadText}
 use Rattle.reg_import.specs.declared.reading.ReadText.TheVariants as reading
@@ -32,8 +32,8 @@ use Rattle.reg_import.specs.declared.action.Problem.TheVariants as problem
 use Rattle.reg_import.specs.declared.action.TextAction.{TextAction}
 use Rattle.reg_import.specs.declared.import.ImportRefusal.TheVariants as refusal
 use Rattle.reg_import.specs.Known.{is_valid, AreKnown, stands, AreStanding, At, by_key}
-use Rattle.reg_import.specs.Imports.{Step, imports, tolds, effects, NoneRefused}
-use Rattle.reg_import.specs.Plans.{AreSteps, begins_unread, MayRunOut, Imports, IsImportRefusal}
+use Rattle.reg_import.specs.Imports.{imports, tolds, effects, NoneRefused}
+use Rattle.reg_import.specs.Plans.{begins_unread, MayRunOut, Imports, IsImportRefusal}
 use Rattle.reg_import.proofs.StandingLemmas.{in_filter}
 use Rattle.reg_import.proofs.LawLemmas.{defined_rows}
 

@@ -1,10 +1,8 @@
 -- The keys of texts, and the entries of an authority whose keys no text has.
-use Rattle.std.proofs.Common.{◌≡◌, ◌⊎◌, ◌↔◌, ℕ, Bool, true, false, not, cond, List, [], ◌∷◌, ◌++◌, append_assoc, append-nil, map, refl, sym, ap, ◌∙◌, subst, inl, inr}
+use Rattle.std.proofs.Common.{◌≡◌, ◌↔◌, ℕ, Bool, true, false, not, cond, List, [], ◌∷◌, ◌++◌, append-nil, map, refl, sym, ap, ◌∙◌, subst, inl, inr}
 use Rattle.std.specs.Prelude.{IsTrue, Contains, if◌then◌else◌}
 use Rattle.std.specs.Cmp.{Equal-is, tied_itself}
-use Rattle.std.specs.List.{list_any}
 use Rattle.std.specs.Ordering.{is_eq}
-use Rattle.std.specs.BTreeSet.{BTreeSet}
 use Rattle.std.proofs.lemmas.Bool.{true≢false}
 use Rattle.std.proofs.lemmas.List.{map-append}
 use Rattle.std.proofs.lemmas.List.Elements.{Contains-append_cases, Contains-append_left, Contains-append_right}
@@ -14,13 +12,11 @@ use Rattle.reg_report.specs.declared.row.Row.{Row}
 use Rattle.reg_report.specs.Conflicts.{KeyBytes, bytes_of, key_cmp, HasKey}
 use Rattle.reg_report.specs.Seen.{row_seen}
 use Rattle.reg_report.proofs.ConflictLemmas.{key_total, key_exact, none_in, in_cons, in_head, in_tail}
-use Rattle.reg_import.specs.declared.index.OwnedKeyText.{OwnedKeyText}
 use Rattle.reg_import.specs.declared.reading.ReadText.{ReadText}
 use Rattle.reg_import.specs.declared.reading.ReadText.TheVariants as reading
 use Rattle.reg_import.specs.Known.{stands}
 use Rattle.reg_import.specs.Readings.{keys_in}
-use Rattle.reg_import.specs.Index.{key_bytes, text_cmp}
-use Rattle.reg_import.specs.Gone.{HasKeys, IsOf, IsGone, AreGone, IsKeyOf, IsLiveKey}
+use Rattle.reg_import.specs.Gone.{IsOf, IsGone, AreGone, IsKeyOf, IsLiveKey}
 use Rattle.reg_import.proofs.StandingLemmas.{one_key}
 
 -- ---- keys of texts

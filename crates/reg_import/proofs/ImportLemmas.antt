@@ -13,7 +13,6 @@ use Rattle.reg_office.proofs.NumberLemmas.{made_ok}
 use Rattle.reg_import.specs.declared.reading.ReadText.{ReadText}
 use Rattle.reg_import.specs.declared.action.Differs.{Differs}
 use Rattle.reg_import.specs.declared.action.TextAction.{TextAction}
-use Rattle.reg_import.specs.declared.import.ImportRefusal.TheVariants as refusal
 use Rattle.reg_import.specs.Imports.{Step, effects}
 use Rattle.reg_import.specs.Plans.{AreSteps, Plans, IsPassedPlan, Imports}
 use Rattle.reg_import.proofs.NumberedLemmas.{length_numbered}

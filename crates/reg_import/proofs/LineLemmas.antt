@@ -1,8 +1,8 @@
 -- The lines of an import, one text at a time.
-use Rattle.std.proofs.Common.{◌≡◌, ℕ, Bool, true, false, not, ◌&&◌, cond, List, [], ◌∷◌, ◌++◌, append_assoc, append-nil, filter, length, arith, refl, sym, ap, ◌∙◌, subst}
+use Rattle.std.proofs.Common.{◌≡◌, ◌≤◌, ◌⊎◌, ℕ, zero, suc, Bool, List, [], ◌∷◌, ◌++◌, append_assoc, append-nil, filter, length, take, drop, arith, refl, sym, ap, inl, inr, ◌∙◌, subst}
 use Rattle.std.proofs.lemmas.List.Elements.{filter-append}
 use Rattle.csv.specs.Writing.{row_text, default_writer}
-use Rattle.reg_report.specs.Lines.{Sheet, sheet_text, IsReady, WritesRow, AreLines}
+use Rattle.reg_report.specs.Lines.{Sheet, sheet_text, WritesRow, AreLines}
 use Rattle.reg_import.specs.declared.reading.FileText.{FileText}
 use Rattle.reg_import.specs.declared.action.TextAction.{TextAction}
 use Rattle.reg_import.specs.Lines.{Line, lines_of, is_shown, import_header, IsImportLine, IsLinkedLine, IsGoneLine}
@@ -12,7 +12,7 @@ use Rattle.reg_op.specs.Operations.{Ops}
 use Rattle.reg_op.specs.Rows.{Row, rows}
 use Rattle.reg_import.specs.Readings.{readings}
 use Rattle.reg_import.specs.declared.listing.Listing.{Listing}
-use Rattle.reg_import.specs.Listing.{AreGoneOf, WritesLines, WritesMade, IsListing}
+use Rattle.reg_import.specs.Listing.{AreGoneOf, WritesLines, PacksLines, IsListing}
 
 -- ---- lines of some items
 
@@ -32,31 +32,38 @@ module _ {T : Type 0} (R : T → List (List ℕ) → Type 0) where
     ready = two.ready;
   }
 
--- lines of the texts, and then of linked entries
-pub made_lines : (l : Listing) (texts : List FileText) (ts : List TextAction) (linked : List Row) (old now new : Sheet)
-    → WritesLines (IsImportLine (map string_bytes l.names.now)) (filter (is_shown l.changes) (lines_of texts ts)) old now → WritesLines IsLinkedLine linked now new → WritesMade l texts ts linked old new
-made_lines l texts ts linked old now new one two = record {
-  lines = one.lines;
-  of_texts = one.are;
-  more = two.lines;
-  of_linked = two.are;
-  text = two.text ∙ ap (λ t. t ++ two.lines) one.text ∙ append_assoc (sheet_text old) one.lines two.lines;
-  ready = two.ready;
-}
+  -- the lines that a new writer has
+  pub lines_alone : (items : List T) (first last : Sheet) (text : List ℕ) → sheet_text first ≡ [] → WritesLines R items first last → text ≡ sheet_text last → AreLines R items text
+  lines_alone items first last text empty w e = subst (AreLines R items) (sym (e ∙ w.text ∙ ap (λ t. t ++ w.lines) empty)) w.are
 
--- and then the lines of entries that no text has
-pub whole_listing : (l : Listing) (s : Ops) (texts : List FileText) (ts : List TextAction) (linked gone : List Row) (first head made last : Sheet) (text : List ℕ) → sheet_text first ≡ [] → WritesRow first head import_header
-    → WritesMade l texts ts linked head made → AreGoneOf l.gone (readings texts) (rows s) gone → WritesLines IsGoneLine gone made last → text ≡ sheet_text last → IsListing l s texts ts linked text
-whole_listing l s texts ts linked gone first head made last text empty h m are g e = record {
+  pub pack_none : (rows : List ℕ) → PacksLines R [] rows rows
+  pack_none rows = record { lines = []; are = refl; text = sym (append-nil rows) }
+
+  pub pack_more : (xs ys : List T) (old now new text : List ℕ) → PacksLines R xs old now → AreLines R ys text → new ≡ now ++ text → PacksLines R (xs ++ ys) old new
+  pack_more xs ys old now new text p are e = record {
+    lines = p.lines ++ text;
+    are = lines-append xs ys p.lines text p.are are;
+    text = e ∙ ap (λ t. t ++ text) p.text ∙ append_assoc old p.lines text;
+  }
+
+pub row_alone : (fields : List (List ℕ)) (first last : Sheet) (text : List ℕ) → sheet_text first ≡ [] → WritesRow first last fields → text ≡ sheet_text last → text ≡ row_text default_writer fields
+row_alone fields first last text empty w e = e ∙ w.text ∙ ap (λ t. t ++ row_text default_writer fields) empty
+
+-- the header, the lines of the texts, of linked entries, and of entries that no text has
+pub whole_listing : (l : Listing) (s : Ops) (texts : List FileText) (ts : List TextAction) (linked gone : List Row) (head made more text : List ℕ) → head ≡ row_text default_writer import_header
+    → PacksLines (IsImportLine (map string_bytes l.names.now)) (filter (is_shown l.changes) (lines_of texts ts)) head made → PacksLines IsLinkedLine linked made more
+    → AreGoneOf l.gone (readings texts) (rows s) gone → PacksLines IsGoneLine gone more text → IsListing l s texts ts linked text
+whole_listing l s texts ts linked gone head made more text h m k are g = record {
   gone = gone;
   are_gone = are;
   lines = m.lines;
-  of_texts = m.of_texts;
-  more = m.more;
-  of_linked = m.of_linked;
+  of_texts = m.are;
+  more = k.lines;
+  of_linked = k.are;
   last = g.lines;
   of_gone = g.are;
-  is = e ∙ g.text ∙ ap (λ t. t ++ g.lines) (m.text ∙ ap (λ t. t ++ (m.lines ++ m.more)) (h.text ∙ ap (λ t. t ++ row_text default_writer import_header) empty));
+  is = g.text ∙ ap (λ t. t ++ g.lines) (k.text ∙ ap (λ t. t ++ k.lines) (m.text ∙ ap (λ t. t ++ m.lines) h)
+      ∙ append_assoc (row_text default_writer import_header) m.lines k.lines);
 }
 
 -- ---- a loop over the texts
@@ -77,3 +84,43 @@ module _ (names : List (List ℕ)) (changes : Bool) (all : List Line) where
         writes = subst (λ l. WritesLines (IsImportLine names) l old new) (sym (filter-append (is_shown changes) s.done (line ∷ [])))
             (then_lines (IsImportLine names) (filter (is_shown changes) s.done) (filter (is_shown changes) (line ∷ [])) old now new s.writes w);
       }
+
+-- ---- the texts, some at a time
+
+lines_split : (n : ℕ) (xs : List FileText) (ts : List TextAction) → n ≤ length xs → n ≤ length ts → lines_of xs ts ≡ lines_of (take n xs) (take n ts) ++ lines_of (drop n xs) (drop n ts)
+lines_split zero xs ts h k = refl
+lines_split (suc n) [] ts h k = absurd (omega (arith, h))
+lines_split (suc n) (x ∷ xs) [] h k = absurd (omega (arith, k))
+lines_split (suc n) (x ∷ xs) (t ∷ ts) h k = ap (λ l. record { text = x; told = t } ∷ l) (lines_split n xs ts (omega (arith, h)) (omega (arith, k)))
+
+no_lines : (xs : List FileText) (ts : List TextAction) → (length xs ≡ 0) ⊎ (length ts ≡ 0) → lines_of xs ts ≡ []
+no_lines [] ts h = refl
+no_lines (x ∷ xs) [] h = refl
+no_lines (x ∷ xs) (t ∷ ts) (inl h) = absurd (omega (arith, h))
+no_lines (x ∷ xs) (t ∷ ts) (inr h) = absurd (omega (arith, h))
+
+-- the lines of all texts before the remaining ones are packed
+pub record PackedSoFar (names : List (List ℕ)) (changes : Bool) (all : List Line) (texts : List FileText) (told : List TextAction) (old now : List ℕ) : Type 0 where
+  pub done : List Line
+  pub split : all ≡ done ++ lines_of texts told
+  pub packs : PacksLines (IsImportLine names) (filter (is_shown changes) done) old now
+
+module _ (names : List (List ℕ)) (changes : Bool) (all : List Line) where
+  pub none_packed : (texts : List FileText) (told : List TextAction) (rows : List ℕ) → all ≡ lines_of texts told → PackedSoFar names changes all texts told rows rows
+  none_packed texts told rows e = record { done = []; split = e; packs = pack_none (IsImportLine names) rows }
+
+  pub more_packed : (n : ℕ) (texts : List FileText) (told : List TextAction) (old now new text : List ℕ) → n ≤ length texts → n ≤ length told
+      → AreLines (IsImportLine names) (filter (is_shown changes) (lines_of (take n texts) (take n told))) text → new ≡ now ++ text → PackedSoFar names changes all texts told old now
+      → PackedSoFar names changes all (drop n texts) (drop n told) old new
+  more_packed n texts told old now new text h k are e s =
+      let these = lines_of (take n texts) (take n told) in record {
+        done = s.done ++ these;
+        split = s.split ∙ ap (λ l. s.done ++ l) (lines_split n texts told h k) ∙ sym (append_assoc s.done these (lines_of (drop n texts) (drop n told)));
+        packs = subst (λ l. PacksLines (IsImportLine names) l old new) (sym (filter-append (is_shown changes) s.done these))
+            (pack_more (IsImportLine names) (filter (is_shown changes) s.done) (filter (is_shown changes) these) old now new text s.packs are e);
+      }
+
+  pub all_packed : (texts : List FileText) (told : List TextAction) (old now : List ℕ) → (length texts ≡ 0) ⊎ (length told ≡ 0) → PackedSoFar names changes all texts told old now
+      → PacksLines (IsImportLine names) (filter (is_shown changes) all) old now
+  all_packed texts told old now none s =
+      subst (λ l. PacksLines (IsImportLine names) (filter (is_shown changes) l) old now) (sym (s.split ∙ ap (λ l. s.done ++ l) (no_lines texts told none) ∙ append-nil s.done)) s.packs

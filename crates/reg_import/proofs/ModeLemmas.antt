@@ -1,27 +1,26 @@
 -- What the modes of an import promise.
-use Rattle.std.proofs.Common.{◌≡◌, ◌≢◌, ℕ, ◌+◌, ◌≤◌, nat_le, Bool, true, false, not, cond, ◌||◌, List, [], ◌∷◌, ◌++◌, length, Option, Some, None, refl, sym, ap, ◌∙◌, subst, inl, inr, ◌⊎◌, add-zero, arith}
+use Rattle.std.proofs.Common.{◌≡◌, ◌≢◌, ℕ, ◌+◌, nat_le, Bool, true, false, not, cond, ◌||◌, List, [], ◌∷◌, ◌++◌, length, Option, Some, None, refl, sym, ap, ◌∙◌, subst, inl, inr, ◌⊎◌, add-zero, arith}
 use Rattle.std.specs.Prelude.{Contains, option_map}
 use Rattle.std.specs.Option.{unwrap_or}
 use Rattle.std.proofs.lemmas.Bool.{true≢false, false_from_ne_true, or_cases, or_parts}
 use Rattle.std.proofs.Math.Bool.{or-false}
 use Rattle.crs_value.specs.declared.key.Key.{Key}
 use Rattle.wkt_crs.specs.Definition.{IsKeyIn}
-use Rattle.reg_op.specs.Set.{contains}
 use Rattle.reg_op.specs.Ids.{Id}
 use Rattle.reg_op.specs.Lists.{has}
 use Rattle.reg_op.specs.Kept.{entering}
-use Rattle.reg_op.specs.Operations.{Op, Ops}
+use Rattle.reg_op.specs.Operations.{Ops}
 use Rattle.reg_op.specs.declared.operation.OpBody.{OpBody as Body}
-use Rattle.reg_op.specs.declared.operation.OpBody.TheVariants.{Enter, Retire}
+use Rattle.reg_op.specs.declared.operation.OpBody.TheVariants.{Enter}
 use Rattle.reg_op.specs.Contents.{Content, IsContent}
-use Rattle.reg_op.specs.Rows.{Row, rows, IsInConflict}
-use Rattle.reg_op.specs.Status.{enters, retires, supersedes, status}
+use Rattle.reg_op.specs.Rows.{Row, rows}
+use Rattle.reg_op.specs.Status.{enters, retires, supersedes}
 use Rattle.reg_op.specs.declared.status.Status.{Status}
 use Rattle.reg_op.specs.declared.status.Status.TheVariants.{Retired, Superseded, Valid}
 use Rattle.reg_state.specs.Runs.{id_at}
 use Rattle.reg_report.specs.Conflicts.{KeyBytes, HasKey, bytes_of}
 use Rattle.reg_report.specs.Exports.{is_retired}
-use Rattle.reg_report.proofs.ConflictLemmas.{none_in, in_cons, in_head}
+use Rattle.reg_report.proofs.ConflictLemmas.{none_in, in_cons}
 use Rattle.reg_report.proofs.EntryLemmas.{row_is_entered}
 use Rattle.reg_report.proofs.PairLemmas.{it_enters}
 use Rattle.reg_office.specs.Making.{greatest, numbered}
@@ -38,16 +37,16 @@ use Rattle.reg_import.specs.declared.action.Differs.TheVariants as differs
 use Rattle.reg_import.specs.declared.action.Problem.TheVariants as problem
 use Rattle.reg_import.specs.declared.action.TextAction.{TextAction}
 use Rattle.reg_import.specs.declared.action.TextAction.TheVariants as told
-use Rattle.reg_import.specs.Known.{AreStanding, OfKey, At, stands, is_key, key_of, by_key, with_key}
+use Rattle.reg_import.specs.Known.{AreStanding, OfKey, At, is_key, key_of, by_key, with_key}
 use Rattle.reg_import.specs.Imports.{least, any_entry, sooner, has_text, has_text_and_is_valid, unless_spent, told_of_new, told_of, bodies_of, entered, then_of, imports, effects}
 use Rattle.reg_import.specs.Plans.{Imports}
 use Rattle.reg_import.specs.Again.{HasStanding, RetiresNoneAhead, AreReadings}
-use Rattle.reg_import.specs.Modes.{MakesNoConflict, RetiresNothing, HasCome, IsOnlyText, LeavesOneText}
+use Rattle.reg_import.specs.Modes.{MakesNoConflict, RetiresNothing, LeavesOneText}
 use Rattle.reg_import.proofs.KnownLemmas.{same_key, key_itself}
 use Rattle.reg_import.proofs.FreshLemmas.{imports_once}
-use Rattle.reg_import.proofs.TextLemmas.{HasText, comes_ours}
-use Rattle.reg_import.proofs.AgainLemmas.{at_key, finally, ours_stay}
-use Rattle.reg_import.proofs.StandingLemmas.{in_filter, to_filter, one_key, IsOld, standing_is_old, old_is_standing, entered_stands, row_stands, standing_entry, gone, was_entered, then_retired}
+use Rattle.reg_import.proofs.TextLemmas.{HasText}
+use Rattle.reg_import.proofs.AgainLemmas.{at_key, finally}
+use Rattle.reg_import.proofs.StandingLemmas.{in_filter, to_filter, one_key, IsOld, standing_is_old, old_is_standing, entered_stands, standing_entry, gone, was_entered, then_retired}
 use Rattle.reg_import.proofs.LawLemmas.{are_keyed}
 use Rattle.reg_import.proofs.LastLemmas.{AreKeyed, gone_both, once_gone, old_stay, has_both, enters_there, entered_is}
 

@@ -1,13 +1,10 @@
 -- Operations with consecutive numbers.
-use Rattle.std.proofs.Common.{◌≡◌, ℕ, ◌+◌, List, [], ◌∷◌, ◌++◌, append_assoc, length, suc, refl, sym, ap, ◌∙◌, arith}
+use Rattle.std.proofs.Common.{◌≡◌, ℕ, ◌+◌, List, [], ◌∷◌, ◌++◌, length, suc, refl, ap, ◌∙◌, arith}
 use Rattle.std.proofs.Common.{add-one}
 use Rattle.reg_op.specs.Operations.{Op}
 use Rattle.reg_op.specs.declared.operation.OpBody.{OpBody as Body}
-use Rattle.reg_op.specs.declared.operation.OpBody.TheVariants.{Retire}
 use Rattle.reg_state.specs.Runs.{id_at}
 use Rattle.reg_office.specs.Making.{numbered}
-use Rattle.reg_import.specs.declared.standing_entry.StandingEntry.{StandingEntry}
-use Rattle.reg_import.specs.Plans.{retired}
 
 pub numbered_append : (r : List ℕ) (n : ℕ) (note : List ℕ) (bs cs : List Body) → numbered r n note (bs ++ cs) ≡ numbered r n note bs ++ numbered r (n + length bs) note cs
 numbered_append r n note [] cs = let e : n ≡ n + 0 = omega arith in ap (λ m. numbered r m note cs) e

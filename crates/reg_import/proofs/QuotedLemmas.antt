@@ -1,9 +1,8 @@
 -- The loop that reads a text in quotation marks, byte by byte.
-use Rattle.std.proofs.Common.{◌≡◌, ℕ, Bool, true, false, cond, List, [], ◌∷◌, ◌++◌, append_assoc, append-nil, Option, Some, None, refl, sym, ap, subst, ◌∙◌}
+use Rattle.std.proofs.Common.{◌≡◌, ℕ, Bool, false, List, [], ◌∷◌, ◌++◌, append-nil, Option, Some, None, refl, sym, ap, subst, ◌∙◌}
 use Rattle.std.specs.Prelude.{option_map}
 use Rattle.std.specs.Option.{unwrap_or}
-use Rattle.wkt_tree.specs.Tokens.{is_mark}
-use Rattle.reg_import.specs.Quoted.{quoted, first_quoted, Quotes}
+use Rattle.reg_import.specs.Quoted.{quoted, Quotes}
 
 -- `text` followed by what the bytes not yet read quote is the quoted text
 abbrev pub IsQuotedSoFar : List ℕ → Bool → List ℕ → List ℕ → Type 0

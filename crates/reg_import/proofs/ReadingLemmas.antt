@@ -2,15 +2,13 @@
 use Rattle.std.proofs.Common.{◌≡◌, ◌≢◌, ℕ, ◌<◌, ◌≤◌, List, length, refl, sym, ap, ◌∙◌, subst, arith}
 use Rattle.crs_value.specs.declared.crs.Crs.{Crs}
 use Rattle.crs_value.specs.declared.key.Key.{Key}
-use Rattle.wkt_crs.specs.declared.fault.ReadFault.TheVariants as read
 use Rattle.wkt_crs.specs.declared.fault.Unspelled.{Unspelled}
-use Rattle.wkt_crs.specs.declared.fault.Unspelled.TheVariants as refused
 use Rattle.wkt_crs.specs.declared.definition.DefinitionFault.{DefinitionFault}
 use Rattle.wkt_crs.specs.declared.definition.DefinitionFault.TheVariants as fault
 use Rattle.wkt_crs.specs.Unspelled.{as_read}
-use Rattle.wkt_crs.specs.Spells.{Spells, SpellsCanon, canon}
+use Rattle.wkt_crs.specs.Spells.{Spells, canon}
 use Rattle.wkt_crs.specs.Faults.{FirstFault}
-use Rattle.wkt_crs.specs.Definition.{HasNone, IsDefinition, IsKeyIn, IsTextFault}
+use Rattle.wkt_crs.specs.Definition.{HasNone, IsKeyIn, IsTextFault}
 use Rattle.wkt_crs.proofs.Texts.{one_value}
 use Rattle.wkt_crs.proofs.Verdicts.{value_or_fault, one_first_fault}
 use Rattle.wkt_crs.proofs.Written.{canonical_spells}

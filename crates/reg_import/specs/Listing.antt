@@ -26,14 +26,11 @@ abbrev pub AreGoneOf : Option (Bor (List ℕ)) → List ReadText → List Row �
 AreGoneOf None rs all gone = gone ≡ []
 AreGoneOf (Some authority) rs all gone = AreGone authority.now (keys_in rs) all gone
 
--- lines of the texts that are not left out were appended, and then of the entries to which a supersession passed on
-pub record WritesMade (l : Listing) (texts : List FileText) (ts : List TextAction) (linked : List Row) (old new : Sheet) : Type 0 where
+-- lines of these items were appended to packed rows
+pub record PacksLines {T : Type 0} (R : T → List (List ℕ) → Type 0) (items : List T) (old new : List ℕ) : Type 0 where
   pub lines : List ℕ
-  pub of_texts : AreLines (IsImportLine (map string_bytes l.names.now)) (filter (is_shown l.changes) (lines_of texts ts)) lines
-  pub more : List ℕ
-  pub of_linked : AreLines IsLinkedLine linked more
-  pub text : sheet_text new ≡ sheet_text old ++ (lines ++ more)
-  pub ready : IsReady new
+  pub are : AreLines R items lines
+  pub text : new ≡ old ++ lines
 
 -- a header; a line for each text that is not left out; a line for each entry to which a supersession passed on; a line for each
 -- entry that no text has

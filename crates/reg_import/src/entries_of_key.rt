@@ -15,22 +15,22 @@ use std::alloc::{AllocError, Global};
 /// A key with more entries than this has a summary of them.
 const FEW: usize = 8;
 
-/// The entries of a key, and whether this command entered or found one of them.
+/// The entries of a key, and whether this command entered or found one of them. Few keys have a summary, so it is boxed.
 #[derive(Drop)]
 pub struct EntriesOfKey {
     pub known: Vec<StandingEntry>,
     pub ours: bool,
-    summary: Option<Summary>,
-    ghost sums: { ForSome summary (λ s. SumsUp s known.items) },
+    summary: Option<Box<Summary>>,
+    ghost sums: { ForSome summary (λ s. SumsUp s.value known.items) },
 }
 
 // The summary with one more entry.
 fn and_summed(
     alloc: Global,
-    summary: Option<Summary>,
+    summary: Option<Box<Summary>>,
     entry: &StandingEntry,
-) -> Result<Option<Summary>, AllocError>
-    ensures { (es : List StandingEntry) → ForSome summary (λ s. SumsUp s es) → IfOk result (λ made. ForSome made (λ s. SumsUp s (es ++ entry.now ∷ []))) }
+) -> Result<Option<Box<Summary>>, AllocError>
+    ensures { (es : List StandingEntry) → ForSome summary (λ s. SumsUp s.value es) → IfOk result (λ made. ForSome made (λ s. SumsUp s.value (es ++ entry.now ∷ []))) }
 {
     let Some(mut summary) = summary else {
         return Ok(None);
@@ -42,11 +42,11 @@ fn and_summed(
 // The given summary; if there is none, that of these entries, if they are many.
 fn or_summed(
     alloc: Global,
-    summary: Option<Summary>,
+    summary: Option<Box<Summary>>,
     known: &[StandingEntry],
-) -> Result<Option<Summary>, AllocError>
-    requires { ForSome summary (λ s. SumsUp s known.now) }
-    ensures { IfOk result (λ made. ForSome made (λ s. SumsUp s known.now)) }
+) -> Result<Option<Box<Summary>>, AllocError>
+    requires { ForSome summary (λ s. SumsUp s.value known.now) }
+    ensures { IfOk result (λ made. ForSome made (λ s. SumsUp s.value known.now)) }
 {
     if let Some(summary) = summary {
         return Ok(Some(summary));
@@ -55,7 +55,10 @@ fn or_summed(
         return Ok(None);
     }
     let summary = Summary::of(alloc, known)?;
-    Ok(Some(summary))
+    let Ok(boxed) = Box::new(alloc, summary) else {
+        return Err(AllocError);
+    };
+    Ok(Some(boxed))
 }
 
 // Most keys have one entry, so the first takes room for itself alone.

@@ -194,12 +194,12 @@ fn write_named(
     requires { IsReady wtr.old }
     ensures { OnOk result (WritesRow wtr.old wtr.new (line_fields (map string_bytes names.now) text.now told.now authority.now code.now name.now)) }
 {
-    let place = decimal(alloc, text.place)?;
+    let place = decimal(alloc, text.place as usize)?;
     let entry = entry_text(alloc, told)?;
-    let fault = fault_text(alloc, told, text.at)?;
+    let fault = fault_text(alloc, told, text.at as usize)?;
     write_eight(
         wtr,
-        name_at(names, text.file),
+        name_at(names, text.file as usize),
         &place,
         action_word(told),
         &entry,

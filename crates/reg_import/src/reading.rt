@@ -40,12 +40,13 @@ impl ReadText {
 }
 
 /// A text of a file: the index of the file, from 0; the offset of its first byte; the offset that is reported if it is
-/// rejected; its reading; and, if it is no definition, its first text in quotation marks, unless that is empty.
+/// rejected; its reading; and, if it is no definition, its first text in quotation marks, unless that is empty. An import holds
+/// one for each text, so the numbers are small.
 #[derive(Drop)]
 pub struct FileText {
-    pub file: usize,
-    pub place: usize,
-    pub at: usize,
+    pub file: u32,
+    pub place: u32,
+    pub at: u32,
     pub reading: ReadText,
     pub quoted: Option<Boxed<Vec<u8>>>,
 }
@@ -67,6 +68,16 @@ pub fn told_at(place: usize, reading: &ReadText) -> Option<usize>
     }
 }
 
+// The number in 32 bits. Files are shorter, since the largest that is read has 67,108,864 bytes.
+fn small(number: usize) -> Result<u32, AllocError>
+    ensures { IfOk result (λ n. n ≡ number) }
+{
+    if number > u32::MAX as usize {
+        return Err(AllocError);
+    }
+    Ok(number as u32)
+}
+
 /// Reads a text that begins at this place of the file.
 pub fn read_at(
     alloc: Global,
@@ -82,6 +93,9 @@ pub fn read_at(
         return Err(AllocError);
     };
     let quoted = quoted_in(alloc, text, &reading)?;
+    let file = small(file)?;
+    let place = small(place)?;
+    let at = small(at)?;
     Ok(FileText {
         file,
         place,

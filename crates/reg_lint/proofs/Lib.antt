@@ -10,3 +10,6 @@ mod ToldLemmas
 mod PermutedLemmas
 mod RuleLemmas
 mod ScreenLemmas
+mod WordLemmas
+mod SiftLemmas
+mod DisputeLemmas

@@ -3,6 +3,8 @@ pub mod AnyRules
 pub mod Entered
 pub mod Details
 pub mod Screening
+pub mod Words
+pub mod Disputes
 pub mod Questions
 pub mod Known
 pub mod Lines

@@ -1,13 +1,15 @@
 //! The sentence about each reference system that breaks a rule.
 
-ghost use Rattle.std.specs.Prelude.{◌≡◌, ◌↔◌, true, false, List, map, IsTrue, IfOk};
+ghost use Rattle.std.specs.Prelude.{◌≡◌, ◌↔◌, true, false, List, None, map, IsTrue, IfOk};
 ghost use Rattle.std.specs.List.{Contains};
 ghost use Rattle.crs_sense.specs.Rules.{breaks};
 ghost use Rattle.reg_sense.specs.Claimants.{detail_seen};
 ghost use Rattle.reg_lint.specs.Details.{told_in, told, own_details, details, wide_details};
+ghost use Rattle.reg_lint.specs.Disputes.{AreSettled};
 ghost use Rattle.reg_lint.specs.Screening.{kept_in};
 ghost use Rattle.reg_lint.specs.Subjects.{Subject, IsKept, AreKept};
 
+use crate::disputes::Disputes;
 use crate::kept::{KeptSubject, crs_of};
 use crate::rule::AnyRule;
 use crate::screened::Screened;
@@ -21,15 +23,16 @@ use std::alloc::{AllocError, Global};
 pub(crate) fn details(
     alloc: Global,
     rule: AnyRule,
+    disputes: &Disputes,
     kept: &[KeptSubject],
     screened: &[Screened<'_>],
 ) -> Result<Vec<Option<Vec<u8>>>, AllocError>
     requires { map kept_in screened.now ≡ kept.now }
-    ensures { (ss : List Subject) → AreKept kept.now ss → IfOk result (λ made. map detail_seen made.items ≡ details rule ss) }
+    ensures { (ss : List Subject) → AreKept kept.now ss → AreSettled disputes.now ss → IfOk result (λ made. map detail_seen made.items ≡ details rule ss) }
 {
     match rule {
         AnyRule::Own(rule) => own_details(alloc, rule, screened),
-        AnyRule::Wide(rule) => wide_details(alloc, rule, kept),
+        AnyRule::Wide(rule) => wide_details(alloc, rule, disputes, kept),
     }
 }
 
@@ -95,12 +98,28 @@ fn told_in(alloc: Global, rule: Rule, crs: &CrsParts) -> Result<Option<Vec<u8>>,
 fn wide_details(
     alloc: Global,
     rule: WideRule,
+    disputes: &Disputes,
     kept: &[KeptSubject],
 ) -> Result<Vec<Option<Vec<u8>>>, AllocError>
-    ensures { (ss : List Subject) → AreKept kept.now ss → IfOk result (λ made. map detail_seen made.items ≡ wide_details rule ss) }
+    ensures { (ss : List Subject) → AreKept kept.now ss → AreSettled disputes.now ss → IfOk result (λ made. map detail_seen made.items ≡ wide_details rule ss) }
 {
+    if disputes.is_settled(rule) {
+        return no_details(alloc, kept);
+    }
     let names = names_for(alloc, rule, kept)?;
-    let claimants = claimants_of(alloc, rule, kept)?;
+    let claimants = claimants_of(alloc, rule, disputes, kept)?;
     let made = rule.told(alloc, &names, &claimants)?;
+    Ok(made)
+}
+
+fn no_details(alloc: Global, kept: &[KeptSubject]) -> Result<Vec<Option<Vec<u8>>>, AllocError>
+    ensures { (ss : List Subject) → AreKept kept.now ss → IfOk result (λ made. map detail_seen made.items ≡ map (λ (s : Subject). None) ss) }
+{
+    let mut made = Vec::with_capacity(alloc, kept.len())?;
+    let mut rest = kept;
+    while let Some((_, others)) = rest.split_first() {
+        made.push(None)?;
+        rest = others;
+    }
     Ok(made)
 }

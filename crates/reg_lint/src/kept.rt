@@ -26,12 +26,70 @@ pub enum KeptForm {
     Text(Vec<u8>),
 }
 
-/// A value takes some 1,700 bytes and three for each byte of its text. Rules over several systems hold as much for each byte, so
-/// values of shorter texts than this one would be a large part of what is held.
-const LONG: usize = 1_000;
+/// A value takes so many bytes, and so many for each byte of its text. A text with more nodes than one in so many bytes has small
+/// parts, which take more for each of these nodes.
+const VALUE: usize = 1_700;
 
-fn is_long(text: &[u8]) -> bool {
-    text.len() >= LONG
+const VALUE_BYTE: usize = 3;
+
+const NODE_BYTES: usize = 18;
+
+const SMALL_NODE: usize = 500;
+
+/// The values of the first texts may take so many bytes.
+const FIRST: usize = 8_000_000;
+
+/// And those of all texts so many for each byte of a text; but what else is held of a text takes so many of these.
+const BYTE: usize = 5;
+
+const BESIDE: usize = 400;
+
+/// How many more bytes the values that are held may take. The values of all short texts would take many times the bytes of these.
+#[derive(Drop)]
+pub(crate) struct Room {
+    left: usize,
+}
+
+impl Room {
+    /// Where nothing is held yet.
+    pub(crate) fn new() -> Room {
+        Room { left: FIRST }
+    }
+
+    /// Beside what is held of other texts.
+    pub(crate) fn beside(kept: &[KeptSubject]) -> Room {
+        if kept.is_empty() {
+            return Room::new();
+        }
+        Room { left: 0 }
+    }
+
+    /// Whether the value of the text may be held. If so, it takes its room.
+    fn takes(&mut self, text: &[u8]) -> bool {
+        let room = text.len().saturating_mul(BYTE).saturating_sub(BESIDE);
+        let all = self.left.saturating_add(room);
+        let value = value_bytes(text);
+        if all < value {
+            self.left = all;
+            return false;
+        }
+        self.left = all.saturating_sub(value);
+        true
+    }
+}
+
+// About as many bytes as the value of the text takes.
+fn value_bytes(text: &[u8]) -> usize {
+    let len = text.len();
+    let nodes = text.iter().filter(|byte| opens(**byte)).count();
+    let small = nodes.saturating_sub(len / NODE_BYTES);
+    len.saturating_mul(VALUE_BYTE)
+        .saturating_add(small.saturating_mul(SMALL_NODE))
+        .saturating_add(VALUE)
+}
+
+fn opens(byte: u8) -> bool {
+    byte == b'[' || byte == b'('
 }
 
 fn shared(alloc: Global, crs: Crs) -> Result<Rc<Crs>, AllocError>
@@ -44,11 +102,15 @@ fn shared(alloc: Global, crs: Crs) -> Result<Rc<Crs>, AllocError>
 }
 
 /// What is kept of the reference system of an entry.
-pub(crate) fn form_of_entry(alloc: Global, definition: &Definition) -> Result<KeptForm, AllocError>
+pub(crate) fn form_of_entry(
+    alloc: Global,
+    room: &mut Room,
+    definition: &Definition,
+) -> Result<KeptForm, AllocError>
     ensures { IfOk result (λ made. (crs : Value) × IsCrsOf crs definition.now × IsForm made crs) }
 {
     let _name = definition.name();
-    if is_long(definition.as_bytes()) {
+    if room.takes(definition.as_bytes()) {
         let crs = definition.crs(alloc)?;
         let made = shared(alloc, crs)?;
         return Ok(KeptForm::Value(made));
@@ -58,10 +120,15 @@ pub(crate) fn form_of_entry(alloc: Global, definition: &Definition) -> Result<Ke
 }
 
 /// What is kept of the reference system that a text of a file spells.
-pub(crate) fn form_of_text(alloc: Global, text: &[u8], crs: Crs) -> Result<KeptForm, AllocError>
+pub(crate) fn form_of_text(
+    alloc: Global,
+    room: &mut Room,
+    text: &[u8],
+    crs: Crs,
+) -> Result<KeptForm, AllocError>
     ensures { Spells text.now crs → IfOk result (λ made. IsForm made crs) }
 {
-    if is_long(text) {
+    if room.takes(text) {
         let made = shared(alloc, crs)?;
         return Ok(KeptForm::Value(made));
     }

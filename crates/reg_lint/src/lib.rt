@@ -3,6 +3,7 @@
 
 mod asked;
 mod details;
+mod disputes;
 mod entered;
 mod kept;
 mod keys;
@@ -16,6 +17,7 @@ mod screened;
 mod screening;
 mod texts;
 mod voices;
+mod words;
 
 pub use asked::questions;
 pub use crs_sense::Rule;

@@ -4,11 +4,13 @@ ghost use Rattle.std.specs.Prelude.{◌≡◌, List, map, IfOk, OnOk};
 ghost use Rattle.reg_report.specs.Lines.{IsReady, WritesRow};
 ghost use Rattle.reg_sense.specs.Claimants.{detail_seen};
 ghost use Rattle.reg_lint.specs.Known.{has_mark};
+ghost use Rattle.reg_lint.specs.Disputes.{AreSettled};
 ghost use Rattle.reg_lint.specs.Screening.{kept_in};
 ghost use Rattle.reg_lint.specs.Subjects.{Subject, IsKept, AreKept};
 ghost use Rattle.reg_lint.specs.Lines.{lint_header, row_of, line_of, lines_of, all_lines, lint_sheet, has_rows, fields_in, fields_of, Writes};
 
 use crate::details::details;
+use crate::disputes::{Disputes, disputes_for};
 use crate::kept::{KeptSubject, crs_of};
 use crate::keys::{authority_of, code_of, copied};
 use crate::known::Known;
@@ -34,9 +36,10 @@ pub fn lint_text(
     ensures { (subjects : List Subject) → AreKept kept.now subjects → IfOk result (λ text. text.items ≡ lint_sheet (has_mark known.now) rules.now subjects) }
 {
     let screened = looked_at(alloc, rules.len(), kept)?;
+    let disputes = disputes_for(alloc, rules, kept)?;
     let mut wtr = Writer::from_writer(Vec::new(alloc));
     write_header(&mut wtr)?;
-    write_all_lines(alloc, &mut wtr, known, rules, kept, &screened)?;
+    write_all_lines(alloc, &mut wtr, known, rules, &disputes, kept, &screened)?;
     match wtr.into_inner() {
         Ok(text) => Ok(text),
         Err(_) => Err(AllocError),
@@ -66,16 +69,17 @@ fn write_all_lines(
     wtr: &mut Writer<Vec<u8>>,
     known: &Known,
     rules: &[AnyRule],
+    disputes: &Disputes,
     kept: &[KeptSubject],
     screened: &[Screened<'_>],
 ) -> Result<(), AllocError>
     requires ready { IsReady wtr.old }
     requires looked { map kept_in screened.now ≡ kept.now }
-    ensures { (ss : List Subject) → AreKept kept.now ss → OnOk result (Writes wtr.old wtr.new (all_lines (has_mark known.now) rules.now ss)) }
+    ensures { (ss : List Subject) → AreKept kept.now ss → AreSettled disputes.now ss → OnOk result (Writes wtr.old wtr.new (all_lines (has_mark known.now) rules.now ss)) }
 {
     let mut rest = rules;
     while let Some((rule, others)) = rest.split_first() {
-        let found = details(alloc, *rule, kept, screened)?;
+        let found = details(alloc, *rule, disputes, kept, screened)?;
         write_lines(alloc, wtr, known, *rule, kept, &found)?;
         rest = others;
     }

@@ -5,7 +5,7 @@ ghost use Rattle.std.specs.List.{cons_option};
 ghost use Rattle.reg_report.specs.Seen.{row_seen};
 ghost use Rattle.reg_lint.specs.Subjects.{Subject, is_retired, IsLiveKept, AreLiveKept, AreLiveIn, AreKept};
 
-use crate::kept::{KeptSubject, form_of_entry};
+use crate::kept::{KeptSubject, Room, form_of_entry};
 use reg_op::Status;
 use reg_report::{Row, printed, rows};
 use reg_state::Register;
@@ -25,8 +25,9 @@ pub(crate) fn live_of_rows(alloc: Global, rows: Vec<Row>) -> Result<Vec<KeptSubj
     ensures { IfOk result (λ kept. AreLiveKept (map row_seen rows.items) kept.items) }
 {
     let mut kept = Vec::with_capacity(alloc, rows.len())?;
+    let mut room = Room::new();
     for row in rows {
-        let live = live_of(alloc, &row)?;
+        let live = live_of(alloc, &mut room, &row)?;
         push_some(&mut kept, live)?;
     }
     Ok(kept)
@@ -42,14 +43,14 @@ fn push_some(kept: &mut Vec<KeptSubject>, live: Option<KeptSubject>) -> Result<(
 }
 
 // What is kept of the entry of a row, unless it is retired.
-fn live_of(alloc: Global, row: &Row) -> Result<Option<KeptSubject>, AllocError>
+fn live_of(alloc: Global, room: &mut Room, row: &Row) -> Result<Option<KeptSubject>, AllocError>
     ensures { IfOk result (IsLiveKept (row_seen row.now)) }
 {
     if is_retired(row.status) {
         return Ok(None);
     }
     let label = printed(alloc, row.entry)?;
-    let form = form_of_entry(alloc, &row.definition)?;
+    let form = form_of_entry(alloc, room, &row.definition)?;
     Ok(Some(KeptSubject { label, form }))
 }
 

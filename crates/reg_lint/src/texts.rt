@@ -6,7 +6,7 @@ ghost use Rattle.wkt_texts.specs.Texts.{piece_of};
 ghost use Rattle.reg_lint.specs.declared.kept.KeptSubject.{KeptSubject as OneKept};
 ghost use Rattle.reg_lint.specs.Texts.{label_of, IsTextKept, AreTextsKept, AreKeptOf, IsUnread, IsFirstUnread, IsFileUnread, why_of};
 
-use crate::kept::{KeptSubject, form_of_text};
+use crate::kept::{KeptSubject, Room, form_of_text};
 use crs_value::Crs;
 use itoa::Buffer;
 use std::alloc::{AllocError, Global};
@@ -40,7 +40,8 @@ pub fn push_texts(
     let Ok(cuts) = texts(alloc, file) else {
         return Err(Unread::Memory);
     };
-    match push_cuts(alloc, kept, name, &cuts) {
+    let mut room = Room::beside(kept.as_slice());
+    match push_cuts(alloc, &mut room, kept, name, &cuts) {
         Ok(()) => Ok(()),
         Err(why) => Err(why),
     }
@@ -48,6 +49,7 @@ pub fn push_texts(
 
 fn push_cuts(
     alloc: Global,
+    room: &mut Room,
     kept: &mut Vec<KeptSubject>,
     name: &[u8],
     cuts: &[Cut<'_>],
@@ -56,13 +58,14 @@ fn push_cuts(
     ensures fault { IfErr result (IsFirstUnread (map piece_of cuts.now)) }
 {
     for cut in cuts {
-        push_text(alloc, kept, name, cut)?;
+        push_text(alloc, room, kept, name, cut)?;
     }
     Ok(())
 }
 
 fn push_text(
     alloc: Global,
+    room: &mut Room,
     kept: &mut Vec<KeptSubject>,
     name: &[u8],
     cut: &Cut<'_>,
@@ -70,7 +73,7 @@ fn push_text(
     ensures ok { OnOk result ((k : OneKept) × IsTextKept name.now (piece_of cut.now) k × (kept.new.items ≡ kept.old.items ++ k ∷ [])) }
     ensures fault { IfErr result (IsUnread (piece_of cut.now)) }
 {
-    let one = match kept_at(alloc, name, cut) {
+    let one = match kept_at(alloc, room, name, cut) {
         Ok(one) => one,
         Err(why) => return Err(why),
     };
@@ -80,7 +83,12 @@ fn push_text(
     }
 }
 
-fn kept_at(alloc: Global, name: &[u8], cut: &Cut<'_>) -> Result<KeptSubject, Unread>
+fn kept_at(
+    alloc: Global,
+    room: &mut Room,
+    name: &[u8],
+    cut: &Cut<'_>,
+) -> Result<KeptSubject, Unread>
     ensures ok { IfOk result (IsTextKept name.now (piece_of cut.now)) }
     ensures fault { IfErr result (IsUnread (piece_of cut.now)) }
 {
@@ -91,7 +99,7 @@ fn kept_at(alloc: Global, name: &[u8], cut: &Cut<'_>) -> Result<KeptSubject, Unr
     let Ok(label) = label_of(alloc, name, cut.place) else {
         return Err(Unread::Memory);
     };
-    let Ok(form) = form_of_text(alloc, cut.bytes, crs) else {
+    let Ok(form) = form_of_text(alloc, room, cut.bytes, crs) else {
         return Err(Unread::Memory);
     };
     Ok(KeptSubject { label, form })

@@ -1,34 +1,50 @@
 //! What reference systems claim beside each other.
 
-ghost use Rattle.std.specs.Prelude.{◌≡◌, ◌++◌, ℕ, List, map, IfOk, OnOk};
+ghost use Rattle.std.specs.Prelude.{◌≡◌, ◌++◌, ℕ, List, map, filter, IfOk, OnOk};
 ghost use Rattle.std.specs.Global.{Vec};
+ghost use Rattle.crs_said.specs.declared.claim.Claim.{Claim as OneClaim};
+ghost use Rattle.crs_said.specs.Claims.{Said, claim_seen};
 ghost use Rattle.crs_said.specs.References.{system_names};
 ghost use Rattle.reg_sense.specs.Claimants.{voice};
 ghost use Rattle.reg_lint.specs.Details.{voice_in, voice_of, names_in, names_for};
+ghost use Rattle.reg_lint.specs.Disputes.{is_open, sifted};
 ghost use Rattle.reg_lint.specs.Subjects.{Subject, IsKept, AreKept};
 
+use crate::disputes::Disputes;
 use crate::kept::{KeptSubject, crs_of};
 use crate::keys::{authority_of, code_of, copied};
-use crs_said::system_names;
+use crs_said::{Claim, system_names};
 use crs_value::Crs;
 use reg_sense::{Claimant, WideRule};
 use std::alloc::{AllocError, Global};
 
-fn claimant_of(alloc: Global, rule: WideRule, kept: &KeptSubject) -> Result<Claimant, AllocError>
-    ensures { (s : Subject) → IsKept kept.now s → IfOk result (λ made. voice made ≡ voice_of rule s) }
+// Without the claims of which the rule tells nothing.
+fn claimant_of(
+    alloc: Global,
+    rule: WideRule,
+    disputes: &Disputes,
+    kept: &KeptSubject,
+) -> Result<Claimant, AllocError>
+    ensures { (s : Subject) → IsKept kept.now s → IfOk result (λ made. voice made ≡ sifted (is_open disputes.now rule) (voice_of rule s)) }
 {
     let crs = crs_of(alloc, kept)?;
-    let made = claimant_in(alloc, rule, crs.as_ref())?;
+    let made = claimant_in(alloc, rule, disputes, crs.as_ref())?;
     Ok(made)
 }
 
-fn claimant_in(alloc: Global, rule: WideRule, crs: &Crs) -> Result<Claimant, AllocError>
-    ensures { IfOk result (λ made. voice made ≡ voice_in rule crs.now.parts) }
+fn claimant_in(
+    alloc: Global,
+    rule: WideRule,
+    disputes: &Disputes,
+    crs: &Crs,
+) -> Result<Claimant, AllocError>
+    ensures { IfOk result (λ made. voice made ≡ sifted (is_open disputes.now rule) (voice_in rule crs.now.parts)) }
 {
     let authority = copied(alloc, authority_of(crs))?;
     let code = code_of(alloc, crs)?;
     let name = copied(alloc, crs.parts().name().as_bytes())?;
-    let claims = rule.claims(alloc, crs.parts())?;
+    let mut claims = rule.claims(alloc, crs.parts())?;
+    keep_open(&mut claims, rule, disputes);
     Ok(Claimant {
         authority,
         code,
@@ -37,18 +53,33 @@ fn claimant_in(alloc: Global, rule: WideRule, crs: &Crs) -> Result<Claimant, All
     })
 }
 
-/// What each of these claims, as far as the rule asks.
+// Keeps the claims of which the rule may tell something.
+fn keep_open(claims: &mut Vec<Claim>, rule: WideRule, disputes: &Disputes)
+    ensures { map claim_seen claims.new.items ≡ filter (λ (x : Said). is_open disputes.now rule x.word) (map claim_seen claims.old.items) }
+{
+    retain_open(claims, rule, disputes);
+    claims.shrink_to_fit();
+}
+
+fn retain_open(claims: &mut Vec<Claim>, rule: WideRule, disputes: &Disputes)
+    ensures { claims.new.items ≡ filter (λ (claim : OneClaim). is_open disputes.now rule claim.word.items) claims.old.items }
+{
+    claims.retain(|claim| disputes.is_open(rule, &claim.word));
+}
+
+/// What each of these claims, as far as the rule asks, and may tell something of it.
 pub(crate) fn claimants_of(
     alloc: Global,
     rule: WideRule,
+    disputes: &Disputes,
     kept: &[KeptSubject],
 ) -> Result<Vec<Claimant>, AllocError>
-    ensures { (ss : List Subject) → AreKept kept.now ss → IfOk result (λ made. map voice made.items ≡ map (voice_of rule) ss) }
+    ensures { (ss : List Subject) → AreKept kept.now ss → IfOk result (λ made. map voice made.items ≡ map (λ (s : Subject). sifted (is_open disputes.now rule) (voice_of rule s)) ss) }
 {
     let mut made = Vec::with_capacity(alloc, kept.len())?;
     let mut rest = kept;
     while let Some((one, others)) = rest.split_first() {
-        let claimant = claimant_of(alloc, rule, one)?;
+        let claimant = claimant_of(alloc, rule, disputes, one)?;
         made.push(claimant)?;
         rest = others;
     }

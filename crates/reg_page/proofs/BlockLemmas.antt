@@ -1,9 +1,8 @@
 -- Listing a block appends its pieces to those of the blocks before it.
-use Rattle.std.proofs.Common.{◌≡◌, ◌==◌, true, false, List, [], ◌∷◌, ◌++◌, map, append-nil, sym, ap, ◌∙◌}
-use Rattle.std.specs.Borrow.{Bor}
+use Rattle.std.proofs.Common.{◌≡◌, List, [], ◌∷◌, ◌++◌, append-nil, ap, ◌∙◌}
 use Rattle.std.specs.List.{flat_map}
 use Rattle.std.proofs.lemmas.Grind.{flat_map-append}
-use Rattle.html_page.specs.Pieces.{Piece, html, Appends}
+use Rattle.html_page.specs.Pieces.{Piece, html}
 use Rattle.html_page.proofs.JoinLemmas.{html-append}
 use Rattle.reg_page.specs.declared.block.Block.{Block}
 use Rattle.reg_page.specs.Blocks.{Setting, pieces_of, bytes_of, Lists}

@@ -1,9 +1,9 @@
 -- What is appended for an operation on an entry, for two entries in conflict, and for a link.
-use Rattle.std.proofs.Common.{◌≡◌, ℕ, true, false, List, [], ◌∷◌, Option, Some, None, sym, append-nil}
+use Rattle.std.proofs.Common.{◌≡◌, ℕ, false, List, [], ◌∷◌, Option, Some, None, sym, append-nil}
 use Rattle.std.specs.List.{flat_map}
 use Rattle.html_page.specs.Pieces.{Piece, Appends}
 use Rattle.html_page.proofs.JoinLemmas.{nothing}
-use Rattle.html_page.specs.Shown.{Entered, Awaited, SupersededBy, RetiredBy}
+use Rattle.html_page.specs.Shown.{Entered, Awaited}
 use Rattle.html_page.specs.Templates.{link, event, by, pair}
 use Rattle.reg_op.specs.Ids.{Id, is_same}
 use Rattle.reg_op.specs.Text.{printed}

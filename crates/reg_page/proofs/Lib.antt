@@ -13,6 +13,7 @@ pub mod FindLemmas
 pub mod ActLemmas
 pub mod SameLemmas
 pub mod BlockLemmas
+pub mod GapPieces
 pub mod WritingLemmas
 pub mod OneLemmas
 mod NeighbourLemmas

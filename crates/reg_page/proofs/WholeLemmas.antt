@@ -23,7 +23,8 @@ use Rattle.reg_page.specs.declared.gathered.Gathered.{Gathered}
 use Rattle.reg_page.specs.Descriptions.{AscendById, AreDescribed, InOrder}
 use Rattle.reg_page.specs.Gathered.{IsGathered}
 use Rattle.reg_page.specs.Page.{is_on, acts_in, conflict_of, gap_of, is_among, rows_of, figures_of, shown_of, IsPage, named}
-use Rattle.reg_page.specs.Parts.{top, open_ends, table}
+use Rattle.reg_page.specs.Blocks.{gap_section}
+use Rattle.reg_page.specs.Parts.{top, unsettled, open_ends, table}
 use Rattle.reg_page.proofs.ActLemmas.{same_on}
 use Rattle.reg_page.proofs.DescribeLemmas.{in_order}
 use Rattle.reg_op.specs.Text.{printed}
@@ -75,25 +76,28 @@ is_page rules title names x rows cs gaps acts cs' is gaps' start last t c g on e
       is = h.is ∙ (λ j. es j ++ html (page (named names) (shown_of x title rows acts (ec j) (ei j) (eg j)))) ∙ ap (λ s. html (page (named names) s)) shows;
     }
 
--- the bytes before the blocks and those of the blocks are the page, of the descriptions in its order
-pub is_whole : (read : List ℕ → List ℕ) (x : Content) (title : List ℕ) (ts rows : List Described) (acts : List Op) (cs : List Contested) (is : List Id) (gaps : List Gap) (first later : List ℕ)
-    → AscendById ts → IsPermutation ts rows → first ≡ html (top title (figures_of x ts cs is gaps))
-    → later ≡ html (open_ends read (map (conflict_of ts) cs) (map printed is) (map gap_of gaps) ++ table read (rows_of false x.ops ts acts rows) (rows_of true x.ops ts acts rows))
-    → first ++ later ≡ html (page read (shown_of x title rows acts cs is gaps))
-is_whole read x title ts rows acts cs is gaps first later up same before after =
-    let ends : List Piece = open_ends read (map (conflict_of rows) cs) (map printed is) (map gap_of gaps) in
+-- the bytes of the figures, of the blocks before the gaps, of the gaps, and of the blocks after them are the page, of the descriptions in its
+-- order
+pub is_whole : (read : List ℕ → List ℕ) (x : Content) (title : List ℕ) (ts rows : List Described) (acts : List Op) (cs : List Contested) (is : List Id) (gaps : List Gap) (first front later : List ℕ)
+    → AscendById ts → IsPermutation ts rows → first ≡ html (top title (figures_of x ts cs is gaps)) → front ≡ html (unsettled read (map (conflict_of ts) cs) (map printed is))
+    → later ≡ html (table read (rows_of false x.ops ts acts rows) (rows_of true x.ops ts acts rows))
+    → first ++ (front ++ (html (gap_section read gaps) ++ later)) ≡ html (page read (shown_of x title rows acts cs is gaps))
+is_whole read x title ts rows acts cs is gaps first front later up same before between after =
+    let missing : List Piece = gap_section read gaps in
+    let others : List Piece = unsettled read (map (conflict_of rows) cs) (map printed is) in
     let entries : List Piece = table read (rows_of false x.ops rows acts rows) (rows_of true x.ops rows acts rows) in
-    let moved : later ≡ html (ends ++ entries) =
-    after ∙ (λ j. html (open_ends read (conflicts_moved ts rows up same cs j) (map printed is) (map gap_of gaps)
-    ++ table read (rows_moved ts rows up same false x.ops acts rows j) (rows_moved ts rows up same true x.ops acts rows j))) in
-    let whole : Appends [] (first ++ html ends ++ html entries) (page read (shown_of x title rows acts cs is gaps)) =
-    in_parts read x title rows acts cs is gaps {b = first} {c = first ++ html ends}
+    let front_moved : front ≡ html others = between ∙ (λ j. html (unsettled read (conflicts_moved ts rows up same cs j) (map printed is))) in
+    let later_moved : later ≡ html entries = after ∙ (λ j. html (table read (rows_moved ts rows up same false x.ops acts rows j) (rows_moved ts rows up same true x.ops acts rows j))) in
+    let whole : Appends [] ((first ++ html (others ++ missing)) ++ html entries) (page read (shown_of x title rows acts cs is gaps)) =
+    in_parts read x title rows acts cs is gaps {b = first} {c = first ++ html (others ++ missing)}
     (record { is = before ∙ ap (λ f. html (top title f)) (figures_moved ts rows up same x cs is gaps) }) (record { is = refl }) (record { is = refl }) in
-    ap (λ l. first ++ l) (moved ∙ html-append ends entries) ∙ sym (append_assoc first (html ends) (html entries)) ∙ whole.is
+    (λ j. first ++ (front_moved j ++ (html missing ++ later_moved j)))
+    ∙ ap (λ l. first ++ l) (sym (append_assoc (html others) (html missing) (html entries)) ∙ ap (λ l. l ++ html entries) (sym (html-append others missing)))
+    ∙ sym (append_assoc first (html (others ++ missing)) (html entries)) ∙ whole.is
 
--- what is gathered of a register, with its entries in order, gives its page
-pub paged : (rules : List Rule) (title : List ℕ) (names : List Name) (x : Content) (g : Gathered) (rows : List Described) → IsGathered rules x g → InOrder g.described.items rows
-    → IsPage rules title names x (html (page (named names) (shown_of x title rows g.acts.items (map conflict_seen g.conflicts.items) g.awaited.items g.gaps.items)))
-paged rules title names x g rows h order =
-    is_page rules title names x rows (map conflict_seen g.conflicts.items) g.gaps.items g.acts.items (map conflict_seen g.conflicts.items) g.awaited.items g.gaps.items [] _
-    (in_order rules x.ops g.described.items rows h.described order) h.conflicts h.gaps (same_on (acts_in x.ops) g.acts.items h.same) refl h.awaited refl refl (record { is = refl })
+-- what is gathered of a register, with its entries in order and its gaps, gives its page
+pub paged : (rules : List Rule) (title : List ℕ) (names : List Name) (x : Content) (g : Gathered) (rows : List Described) (gaps : List Gap) → IsGathered rules x g → InOrder g.described.items rows → AreGaps x.seen gaps
+    → IsPage rules title names x (html (page (named names) (shown_of x title rows g.acts.items (map conflict_seen g.conflicts.items) g.awaited.items gaps)))
+paged rules title names x g rows gaps h order missing =
+    is_page rules title names x rows (map conflict_seen g.conflicts.items) gaps g.acts.items (map conflict_seen g.conflicts.items) g.awaited.items gaps [] _
+    (in_order rules x.ops g.described.items rows h.described order) h.conflicts missing (same_on (acts_in x.ops) g.acts.items h.same) refl h.awaited refl refl (record { is = refl })

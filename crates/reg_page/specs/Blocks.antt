@@ -1,13 +1,15 @@
--- The page in blocks. All blocks are listed before the first byte of the page is written; then each is made and written in turn.
-use Rattle.std.specs.Prelude.{ℕ, Bool, List, [], ◌∷◌, ◌++◌, filter, map}
+-- The page in blocks, and its gaps between them. All blocks are listed before the first byte of the page is written; then each is made
+-- and written in turn. So is each gap.
+use Rattle.std.specs.Prelude.{ℕ, Bool, List, [], ◌∷◌, filter, map}
 use Rattle.std.specs.List.{flat_map}
 use Rattle.html_page.specs.Pieces.{Piece, Markup, html, Appends}
 use Rattle.html_page.specs.Shown as shown
 use Rattle.html_page.specs.Templates.{conflict_start, pair, section, awaited, gap, entry, end}
-use Rattle.html_page.specs.declared.markup.TheConstants.{AWAITED_START, AWAITED_END, GAPS_START, GAPS_END}
+use Rattle.html_page.specs.declared.markup.TheConstants.{GAPS_START, GAPS_END}
 use Rattle.office_names.specs.declared.names.Name.{Name}
 use Rattle.reg_op.specs.Operations.{Op, Ops}
 use Rattle.reg_op.specs.Text.{printed}
+use Rattle.reg_report.specs.declared.gap.Gap.{Gap}
 use Rattle.reg_page.specs.declared.block.Block.{Block}
 use Rattle.reg_page.specs.declared.block.Block.TheVariants as block
 use Rattle.reg_page.specs.declared.described.Described.{Described}
@@ -29,8 +31,7 @@ abbrev pub pieces_of : Setting → Block → List Piece
 pieces_of m (block.Mark constant) = Markup constant.now ∷ []
 pieces_of m (block.Key one) = conflict_start one.now.authority.bytes one.now.code.bytes
 pieces_of m (block.Pair one other) = pair m.named (record { first = side_of one.now other.now; second = side_of other.now one.now })
-pieces_of m (block.Awaited ids) = section AWAITED_START.now (awaited m.named) AWAITED_END.now (map printed ids.now)
-pieces_of m (block.Gaps gaps) = section GAPS_START.now (gap m.named) GAPS_END.now (map gap_of gaps.now)
+pieces_of m (block.Awaited id) = awaited m.named (printed id.now)
 pieces_of m (block.Row one) = entry m.named (entry_of m.ops m.described m.acts one.now)
 pieces_of m block.End = end
 
@@ -45,3 +46,10 @@ Lists m old new pieces = Appends (bytes_of m old) (bytes_of m new) pieces
 -- the rows of the entries among these that are not retired, or of those that are
 abbrev pub rows_with : Setting → Bool → Ops → List Described → List shown.Entry
 rows_with m gone s ts = map (entry_of m.ops m.described m.acts) (filter (is_among gone s) ts)
+
+-- the pieces of some gaps, and their section of the page
+abbrev pub gap_pieces : (List ℕ → List ℕ) → List Gap → List Piece
+gap_pieces read gs = flat_map (gap read) (map gap_of gs)
+
+abbrev pub gap_section : (List ℕ → List ℕ) → List Gap → List Piece
+gap_section read gs = section GAPS_START.now (gap read) GAPS_END.now (map gap_of gs)

@@ -11,11 +11,13 @@ use Rattle.html_page.specs.Templates.{head, figures, section, conflict, awaited,
 abbrev pub top : List ℕ → PageFigures → List Piece
 top title f = head title ++ figures f ++ (Markup AFTER_FIGURES.now ∷ [])
 
+-- the conflicts and the awaited ids
+abbrev pub unsettled : (List ℕ → List ℕ) → List Conflict → List (List ℕ) → List Piece
+unsettled named cs is = section CONFLICTS_START.now (conflict named) CONFLICTS_END.now cs ++ section AWAITED_START.now (awaited named) AWAITED_END.now is
+
 -- the conflicts, the awaited ids and the gaps
 abbrev pub open_ends : (List ℕ → List ℕ) → List Conflict → List (List ℕ) → List Gap → List Piece
-open_ends named cs is gs =
-    section CONFLICTS_START.now (conflict named) CONFLICTS_END.now cs ++ section AWAITED_START.now (awaited named) AWAITED_END.now is
-    ++ section GAPS_START.now (gap named) GAPS_END.now gs
+open_ends named cs is gs = unsettled named cs is ++ section GAPS_START.now (gap named) GAPS_END.now gs
 
 -- the rows of the entries that are not retired, and of those that are
 abbrev pub table : (List ℕ → List ℕ) → List Entry → List Entry → List Piece

@@ -2,7 +2,7 @@
 
 use crate::described::Described;
 use reg_op::OpId;
-use reg_report::{Conflict, Gap};
+use reg_report::Conflict;
 
 /// A part of a page, which is made as a whole. It refers to what the page shows, and has no bytes yet.
 #[derive(Drop)]
@@ -13,10 +13,8 @@ pub enum Block<'a> {
     Key(&'a Conflict),
     /// Two entries of a key, side by side.
     Pair(&'a Described, &'a Described),
-    /// The awaited ids, if there are some.
-    Awaited(&'a [OpId]),
-    /// The gaps, if there are some.
-    Gaps(&'a [Gap]),
+    /// An awaited id.
+    Awaited(&'a OpId),
     /// The row of an entry.
     Row(&'a Described),
     /// Everything after the rows.

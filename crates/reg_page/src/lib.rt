@@ -10,6 +10,8 @@ mod described;
 mod engine;
 mod entries;
 mod figures;
+mod gap_writing;
+mod gaps;
 mod gathered;
 mod kind;
 pub mod laws;

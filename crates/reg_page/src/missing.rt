@@ -1,55 +1,60 @@
-//! What a register lacks: awaited entries, and gaps.
+//! What a register lacks: the blocks of awaited ids, and the bytes of awaited ids and of gaps.
 
 ghost use Rattle.std.specs.Prelude.{map, OnOk};
 ghost use Rattle.std.specs.List.{flat_map};
 ghost use Rattle.uuid.specs.Text.{hyphenated_text, lower};
 ghost use Rattle.html_page.specs.Pieces.{Appends};
 ghost use Rattle.html_page.specs.Templates.{awaited, gap_start, gap, section};
-ghost use Rattle.html_page.specs.declared.markup.TheConstants as markup;
+ghost use Rattle.html_page.specs.declared.markup.TheConstants.{AWAITED_START as START, AWAITED_END as END};
 ghost use Rattle.reg_op.specs.Text.{printed};
+ghost use Rattle.reg_page.specs.Blocks.{Setting, Lists};
 ghost use Rattle.reg_page.specs.Page.{gap_of, named};
 
+use crate::block::Block;
 use crate::names::{read_for_id, read_for_office};
-use html_page::markup::{AWAITED_END, AWAITED_START, GAPS_END, GAPS_START};
-use html_page::{push_awaited, push_gap_counts, push_gap_start, push_mark};
+use html_page::markup::{AWAITED_END, AWAITED_START};
+use html_page::{push_awaited, push_gap_counts, push_gap_start};
 use office_names::Name;
 use reg_op::OpId;
 use reg_report::Gap;
 use std::alloc::{AllocError, Global};
 use uuid::Uuid;
 
-fn push_each_awaited(
-    alloc: Global,
-    page: &mut Vec<u8>,
-    names: &[Name],
-    ids: &[OpId],
-) -> Result<(), AllocError>
-    ensures { OnOk result (Appends page.old.items page.new.items (flat_map (awaited (named names.now)) (map printed ids.now))) }
+fn list_each_awaited<'a>(blocks: &mut Vec<Block<'a>>, ids: &'a [OpId]) -> Result<(), AllocError>
+    ensures { (m : Setting) → OnOk result (Lists m blocks.old.items blocks.new.items (flat_map (awaited m.named) (map printed ids.now))) }
 {
     let mut rest = ids;
     while let Some((id, others)) = rest.split_first() {
-        let read = read_for_id(alloc, names, *id)?;
-        push_awaited(page, &read)?;
+        blocks.push(Block::Awaited(id))?;
         rest = others;
     }
     Ok(())
 }
 
-/// Appends the awaited ids, if there are some.
-pub fn push_all_awaited(
-    alloc: Global,
-    page: &mut Vec<u8>,
-    names: &[Name],
-    ids: &[OpId],
-) -> Result<(), AllocError>
-    ensures { OnOk result (Appends page.old.items page.new.items (section markup.AWAITED_START.now (awaited (named names.now)) markup.AWAITED_END.now (map printed ids.now))) }
+/// Lists the awaited ids, if there are some.
+pub fn list_awaited<'a>(blocks: &mut Vec<Block<'a>>, ids: &'a [OpId]) -> Result<(), AllocError>
+    ensures { (m : Setting) → OnOk result (Lists m blocks.old.items blocks.new.items (section START.now (awaited m.named) END.now (map printed ids.now))) }
 {
     if ids.is_empty() {
         return Ok(());
     }
-    push_mark(page, AWAITED_START)?;
-    push_each_awaited(alloc, page, names, ids)?;
-    push_mark(page, AWAITED_END)?;
+    blocks.push(Block::Mark(AWAITED_START))?;
+    list_each_awaited(blocks, ids)?;
+    blocks.push(Block::Mark(AWAITED_END))?;
+    Ok(())
+}
+
+/// Appends what is read in the place of an awaited id.
+pub fn push_awaited_id(
+    alloc: Global,
+    page: &mut Vec<u8>,
+    names: &[Name],
+    id: &OpId,
+) -> Result<(), AllocError>
+    ensures { OnOk result (Appends page.old.items page.new.items (awaited (named names.now) (printed id.now))) }
+{
+    let read = read_for_id(alloc, names, *id)?;
+    push_awaited(page, &read)?;
     Ok(())
 }
 
@@ -67,44 +72,16 @@ fn push_replica(
     Ok(())
 }
 
-fn push_gap(alloc: Global, page: &mut Vec<u8>, names: &[Name], one: &Gap) -> Result<(), AllocError>
+/// Appends a gap.
+pub fn push_gap(
+    alloc: Global,
+    page: &mut Vec<u8>,
+    names: &[Name],
+    one: &Gap,
+) -> Result<(), AllocError>
     ensures { OnOk result (Appends page.old.items page.new.items (gap (named names.now) (gap_of one.now))) }
 {
     push_replica(alloc, page, names, one.replica)?;
     push_gap_counts(alloc, page, one.low, one.high)?;
-    Ok(())
-}
-
-fn push_each_gap(
-    alloc: Global,
-    page: &mut Vec<u8>,
-    names: &[Name],
-    gaps: &[Gap],
-) -> Result<(), AllocError>
-    ensures { OnOk result (Appends page.old.items page.new.items (flat_map (gap (named names.now)) (map gap_of gaps.now))) }
-{
-    let mut rest = gaps;
-    while let Some((one, others)) = rest.split_first() {
-        push_gap(alloc, page, names, one)?;
-        rest = others;
-    }
-    Ok(())
-}
-
-/// Appends the gaps, if there are some.
-pub fn push_gaps(
-    alloc: Global,
-    page: &mut Vec<u8>,
-    names: &[Name],
-    gaps: &[Gap],
-) -> Result<(), AllocError>
-    ensures { OnOk result (Appends page.old.items page.new.items (section markup.GAPS_START.now (gap (named names.now)) markup.GAPS_END.now (map gap_of gaps.now))) }
-{
-    if gaps.is_empty() {
-        return Ok(());
-    }
-    push_mark(page, GAPS_START)?;
-    push_each_gap(alloc, page, names, gaps)?;
-    push_mark(page, GAPS_END)?;
     Ok(())
 }

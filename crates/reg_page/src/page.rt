@@ -1,10 +1,11 @@
 //! The whole page.
 
-ghost use Rattle.std.specs.Prelude.{◌≡◌, ◌++◌, ◌⊎◌, true, false, List, ℕ, map, IfOk, OnOk, IfErr};
+ghost use Rattle.std.specs.Prelude.{◌≡◌, ◌⊎◌, true, false, List, ℕ, map, None, IfOk, OnOk, IfErr};
 ghost use Rattle.std.specs.List.Sorted.{IsSortedByKey};
 ghost use Rattle.byte_io.specs.Whole.{WritesAll};
 ghost use Rattle.html_page.specs.Pieces.{html, Appends};
 ghost use Rattle.html_page.specs.Templates.{page as page_pieces};
+ghost use Rattle.reg_report.specs.Between.{gaps_between};
 ghost use Rattle.reg_report.specs.Contenders.{conflict_seen};
 ghost use Rattle.reg_op.specs.Ids.{id_cmp};
 ghost use Rattle.reg_op.specs.Text.{printed};
@@ -12,17 +13,19 @@ ghost use Rattle.reg_engine.specs.declared.fault.CliFault.TheVariants.{Memory};
 ghost use Rattle.reg_page.specs.declared.described.Described.{Described as OneDescribed};
 ghost use Rattle.reg_page.specs.Blocks.{Setting, bytes_of, Lists, rows_with};
 ghost use Rattle.reg_page.specs.Descriptions.{AscendById, InOrder};
-ghost use Rattle.reg_page.specs.Page.{subject, conflict_of, gap_of, figures_of, shown_of, named, IsPage};
-ghost use Rattle.reg_page.specs.Parts.{top, open_ends, table};
+ghost use Rattle.reg_page.specs.Page.{subject, conflict_of, figures_of, shown_of, named, IsPage};
+ghost use Rattle.reg_page.specs.Parts.{top, unsettled, table};
 ghost use Rattle.reg_page.specs.Writing.{IsStopped, IsUnwritten};
 
 use crate::block::Block;
 use crate::contested::list_conflicts;
 use crate::described::Described;
 use crate::figures::{count_retired, count_superseded, count_valid};
+use crate::gaps::count_gaps;
 use crate::gathered::{Gathered, gather};
+use crate::missing::list_awaited;
 use crate::table::list_table;
-use crate::writing::write_blocks;
+use crate::writing::write_parts;
 use byte_io::Sink;
 use html_page::markup::AFTER_FIGURES;
 use html_page::{PageFigures, push_figures, push_head, push_mark};
@@ -30,8 +33,8 @@ use office_names::Name;
 use reg_engine::CliFault;
 use reg_lint::Rule;
 use reg_op::{Op, OpId};
-use reg_report::{Conflict, Gap};
-use reg_state::Register;
+use reg_report::Conflict;
+use reg_state::{Register, Run};
 use std::alloc::{AllocError, Global};
 
 fn figures_of(
@@ -39,9 +42,9 @@ fn figures_of(
     described: &[Described],
     conflicts: &[Conflict],
     awaited: &[OpId],
-    gaps: &[Gap],
+    runs: &[Run],
 ) -> PageFigures
-    ensures { result ≡ figures_of register.now described.now (map conflict_seen conflicts.now) awaited.now gaps.now }
+    ensures { result ≡ figures_of register.now described.now (map conflict_seen conflicts.now) awaited.now (gaps_between None runs.now) }
 {
     PageFigures {
         entries: described.len(),
@@ -50,7 +53,7 @@ fn figures_of(
         retired: count_retired(register, described),
         conflicts: conflicts.len(),
         awaited: awaited.len(),
-        gaps: gaps.len(),
+        gaps: count_gaps(runs),
         operations: register.ops().as_slice().len(),
     }
 }
@@ -69,39 +72,46 @@ fn push_top(
     Ok(())
 }
 
-// Lists the conflicts, the awaited ids and the gaps.
-fn list_open_ends<'a>(
+// Lists the conflicts and the awaited ids.
+fn list_unsettled<'a>(
     blocks: &mut Vec<Block<'a>>,
     described: &'a [Described],
     conflicts: &'a [Conflict],
     awaited: &'a [OpId],
-    gaps: &'a [Gap],
 ) -> Result<(), AllocError>
     requires { AscendById described.now }
-    ensures { (m : Setting) → OnOk result (Lists m blocks.old.items blocks.new.items (open_ends m.named (map (conflict_of described.now) (map conflict_seen conflicts.now)) (map printed awaited.now) (map gap_of gaps.now))) }
+    ensures { (m : Setting) → OnOk result (Lists m blocks.old.items blocks.new.items (unsettled m.named (map (conflict_of described.now) (map conflict_seen conflicts.now)) (map printed awaited.now))) }
 {
     list_conflicts(blocks, described, conflicts)?;
-    blocks.push(Block::Awaited(awaited))?;
-    blocks.push(Block::Gaps(gaps))?;
+    list_awaited(blocks, awaited)?;
     Ok(())
 }
 
-// The blocks after the figures.
-fn blocks_of<'a>(
+// The blocks between the figures and the gaps.
+fn first_blocks<'a>(
     alloc: Global,
-    register: &Register,
     described: &'a [Described],
     conflicts: &'a [Conflict],
     awaited: &'a [OpId],
-    gaps: &'a [Gap],
 ) -> Result<Vec<Block<'a>>, AllocError>
     requires { AscendById described.now }
-    ensures { IfOk result (λ made. (rows : List OneDescribed) × InOrder described.now rows × ((m : Setting) → bytes_of m made.items ≡ html
-        (open_ends m.named (map (conflict_of described.now) (map conflict_seen conflicts.now)) (map printed awaited.now) (map gap_of gaps.now)
-        ++ table m.named (rows_with m false register.now.ops rows) (rows_with m true register.now.ops rows)))) }
+    ensures { (m : Setting) → IfOk result (λ made. bytes_of m made.items ≡ html (unsettled m.named (map (conflict_of described.now) (map conflict_seen conflicts.now)) (map printed awaited.now))) }
 {
     let mut blocks = Vec::new(alloc);
-    list_open_ends(&mut blocks, described, conflicts, awaited, gaps)?;
+    list_unsettled(&mut blocks, described, conflicts, awaited)?;
+    Ok(blocks)
+}
+
+// The blocks after the gaps.
+fn last_blocks<'a>(
+    alloc: Global,
+    register: &Register,
+    described: &'a [Described],
+) -> Result<Vec<Block<'a>>, AllocError>
+    ensures { IfOk result (λ made. (rows : List OneDescribed) × InOrder described.now rows
+        × ((m : Setting) → bytes_of m made.items ≡ html (table m.named (rows_with m false register.now.ops rows) (rows_with m true register.now.ops rows)))) }
+{
+    let mut blocks = Vec::new(alloc);
     list_table(alloc, &mut blocks, register, described)?;
     Ok(blocks)
 }
@@ -125,26 +135,30 @@ fn write_page<K: Sink>(
     acts: &[Op],
     conflicts: &[Conflict],
     awaited: &[OpId],
-    gaps: &[Gap],
+    runs: &[Run],
     sink: &mut K,
 ) -> Result<(), CliFault>
     requires ascend { AscendById described.now }
     requires sorted { IsSortedByKey subject id_cmp acts.now }
     ensures written { OnOk result ((rows : List OneDescribed) × InOrder described.now rows
-        × WritesAll (html (page_pieces (named names.now) (shown_of register.now title.now rows acts.now (map conflict_seen conflicts.now) awaited.now gaps.now))) (K.state sink.old) (K.state sink.new)) }
+        × WritesAll (html (page_pieces (named names.now) (shown_of register.now title.now rows acts.now (map conflict_seen conflicts.now) awaited.now (gaps_between None runs.now)))) (K.state sink.old) (K.state sink.new)) }
     ensures fault { IfErr result (λ f. ((f ≡ Memory) × (K.state sink.new ≡ K.state sink.old)) ⊎ ((rows : List OneDescribed) × InOrder described.now rows
-        × IsStopped (html (page_pieces (named names.now) (shown_of register.now title.now rows acts.now (map conflict_seen conflicts.now) awaited.now gaps.now))) (K.state sink.old) (K.state sink.new) f)) }
+        × IsStopped (html (page_pieces (named names.now) (shown_of register.now title.now rows acts.now (map conflict_seen conflicts.now) awaited.now (gaps_between None runs.now)))) (K.state sink.old) (K.state sink.new) f)) }
 {
-    let figures = figures_of(register, described, conflicts, awaited, gaps);
-    let blocks = match blocks_of(alloc, register, described, conflicts, awaited, gaps) {
+    let figures = figures_of(register, described, conflicts, awaited, runs);
+    let blocks = match first_blocks(alloc, described, conflicts, awaited) {
         Ok(blocks) => blocks,
+        Err(_) => return Err(CliFault::Memory),
+    };
+    let later = match last_blocks(alloc, register, described) {
+        Ok(later) => later,
         Err(_) => return Err(CliFault::Memory),
     };
     let mut waiting = match top_of(alloc, title, &figures) {
         Ok(waiting) => waiting,
         Err(_) => return Err(CliFault::Memory),
     };
-    match write_blocks(
+    match write_parts(
         alloc,
         &mut waiting,
         names,
@@ -152,6 +166,8 @@ fn write_page<K: Sink>(
         described,
         acts,
         &blocks,
+        runs,
+        &later,
         sink,
     ) {
         Ok(()) => Ok(()),
@@ -177,13 +193,13 @@ pub fn print_page<K: Sink>(
         acts,
         conflicts,
         awaited,
-        gaps,
     } = match gather(alloc, rules, register) {
         Ok(found) => found,
         Err(_) => return Err(CliFault::Memory),
     };
+    let runs = register.seen().runs();
     match write_page(
-        alloc, names, register, title, &described, &acts, &conflicts, &awaited, &gaps, sink,
+        alloc, names, register, title, &described, &acts, &conflicts, &awaited, runs, sink,
     ) {
         Ok(()) => Ok(()),
         Err(fault) => Err(fault),

@@ -20,12 +20,12 @@ fn fault_of(first: usize, texts: &[FileText], refused: &RefusedText) -> Option<I
     let Some(text) = texts.get(refused.at) else {
         return None;
     };
-    let Some(file) = first.checked_add(text.file) else {
+    let Some(file) = first.checked_add(text.file as usize) else {
         return None;
     };
     Some(ImportFault::Refused {
         problem: refused.problem,
-        place: text.at,
+        place: text.at as usize,
         file,
     })
 }

@@ -7,8 +7,9 @@ use super::fault::Unimported;
 use super::options::ImportOptions;
 use super::ready::{ReadyImport, make_ready};
 use super::room::HasRoom;
+use super::telling::{keep_and_tell, tell};
 use byte_io::{Sink, Source};
-use reg_engine::{Keep, keep_and_tell, tell};
+use reg_engine::Keep;
 use std::alloc::Global;
 
 // The answer of an import that is done: the fault of the texts that were passed over, if any were.

@@ -16,6 +16,7 @@ use crate::import::linked::{LinkRefusal, Linked, import_linked};
 use crate::import::options::ImportOptions;
 use crate::import::texts::{FileCut, read_texts};
 use byte_io::Source;
+use byte_packed::PackedRows;
 use reg_engine::{CliFault, Refusal, Store};
 use reg_import::{FileText, ImportRefusal, Listing, RefusedText, lines_text};
 use reg_links::old_rows;
@@ -27,7 +28,7 @@ use std::alloc::{AllocError, Global};
 #[derive(Drop)]
 pub struct ReadyImport {
     pub register: Register,
-    pub lines: Vec<u8>,
+    pub lines: PackedRows,
     pub passed: Option<Unimported>,
 }
 
@@ -94,8 +95,8 @@ fn lines_of(
     options: &ImportOptions<'_>,
     texts: &[FileText],
     linked: &Linked,
-) -> Result<Vec<u8>, AllocError>
-    ensures { IfOk result (λ lines. AreLines options.now linked.now.register.ops texts.now linked.now.told.items linked.now.links.items lines.items) }
+) -> Result<PackedRows, AllocError>
+    ensures { IfOk result (AreLines options.now linked.now.register.ops texts.now linked.now.told.items linked.now.links.items) }
 {
     let listing = Listing {
         names: options.names,
@@ -124,7 +125,7 @@ fn made_of(
     cuts: &[FileCut<'_>],
     texts: &[FileText],
 ) -> Result<ReadyImport, Unimported>
-    ensures made { IfOk result (λ r. MakesOf options.now first register (bytes_of files.now) (map text_at cuts.now) texts.now r.register r.lines.items r.passed) }
+    ensures made { IfOk result (λ r. MakesOf options.now first register (bytes_of files.now) (map text_at cuts.now) texts.now r.register r.lines r.passed) }
     ensures fault { IfErr result (IsUnmadeOf options.now first register (bytes_of files.now) (map text_at cuts.now) texts.now) }
 {
     let linked = match import_linked(alloc, register, options, texts) {
@@ -152,11 +153,11 @@ fn made(
     options: &ImportOptions<'_>,
     files: &[Vec<u8>],
 ) -> Result<ReadyImport, Unimported>
-    ensures made { IfOk result (λ r. Makes options.now first register (bytes_of files.now) r.register r.lines.items r.passed) }
+    ensures made { IfOk result (λ r. Makes options.now first register (bytes_of files.now) r.register r.lines r.passed) }
     ensures fault { IfErr result (IsUnmade options.now first register (bytes_of files.now)) }
 {
     let _content = register.seen();
-    let Ok(given) = read_texts(alloc, options.keep_going, files) else {
+    let Ok(given) = read_texts(alloc, options.keep_going, options.explain, files) else {
         return Err(run_out(alloc, first, options, files));
     };
     match made_of(
@@ -184,7 +185,7 @@ pub fn make_ready<T: Store, F: Source>(
     files: &mut [F],
 ) -> Result<ReadyImport, Unimported>
     ensures ready { (was : T) → T.same was store.now → IfOk result (λ r. IsReadyIn (T.admission was) options.now first loaded
-        (map F.state files.old) (map F.state files.new) r.register r.lines.items r.passed) }
+        (map F.state files.old) (map F.state files.new) r.register r.lines r.passed) }
     ensures fault { (was : T) → T.same was store.now → IfErr result (λ u. IsUnreadyIn (T.admission was) options.now first loaded
         (map F.state files.old) (map F.state files.new) u) }
 {

@@ -1,10 +1,9 @@
 use Rattle.std.proofs.Common.{◌↔◌, refl, sym, ◌∙◌, subst}
 use Rattle.std.specs.Prelude.{IsTrue, Contains}
-use Rattle.std.specs.BTreeSet.{contains}
 use Rattle.crs_search.specs.Parts.{IsAlike}
 use Rattle.reg_report.specs.Conflicts.{bytes_of}
 use Rattle.reg_report.specs.Seen.{row_seen}
-use Rattle.reg_import.specs.Index.{key_bytes, text_cmp}
+use Rattle.reg_import.specs.Index.{key_bytes}
 use Rattle.reg_import.proofs.GoneLemmas.{is_of_another, is_of_it}
 use Rattle.reg_import.proofs.gone.is_gone.Goals as goal
 

@@ -1,6 +1,3 @@
-use Rattle.std.proofs.Common.{List, ℕ, ap, sym, ◌∙◌}
-use Rattle.std.specs.Prelude.{option_map}
-use Rattle.reg_import.specs.Quoted.{quoted}
 use Rattle.reg_import.proofs.QuotedLemmas.{quote_more, quote_last}
 use Rattle.reg_import.proofs.quoted.quoted.Goals as goal
 

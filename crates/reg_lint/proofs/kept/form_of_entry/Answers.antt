@@ -2,8 +2,8 @@ use Rattle.std.proofs.Common.{ℕ, List, sym, subst}
 use Rattle.wkt_crs.specs.Spells.{Spells}
 use Rattle.reg_lint.proofs.kept.form_of_entry.Goals as goal
 
-pub returns-then-is_long : goal.returns-then-is_long
-returns-then-is_long c = (c.in_ok-crs.crs, c.in_ok-crs.ensures, c.in_ok-made.ensures)
+pub returns-then-takes : goal.returns-then-takes
+returns-then-takes c = (c.in_ok-crs.crs, c.in_ok-crs.ensures, c.in_ok-made.ensures)
 
 pub returns : goal.returns
 returns c =

@@ -1,6 +1,5 @@
-use Rattle.std.proofs.Common.{List, ℕ, refl, subst, map, inl, inr}
+use Rattle.std.proofs.Common.{ℕ, refl, subst, map, inl, inr}
 use Rattle.std.specs.declared.option.Option.{Option}
-use Rattle.reg_engine.specs.Store.{IsTold, IsUntold}
 use Rattle.reg_desk.specs.declared.import.fault.Unimported.{Unimported}
 use Rattle.reg_desk.specs.Import.{IsReadyIn, IsUnreadyIn}
 use Rattle.reg_desk.specs.ImportEngines.{kept_in}
@@ -25,7 +24,7 @@ returns-in-Err-keep_and_tell-clause-fault g c =
     let made = c.in-Ok-make_ready.ready in
     let old = map g.F.Source.state c.args.files.now in
     let new = map g.F.Source.state c.make_ready.new.files in
-    let ready = subst (λ (k : ℕ). IsReadyIn a c.args.options.now k c.in-Ok.register old new made.register made.lines.items made.passed) c.next-next.ensures
+    let ready = subst (λ (k : ℕ). IsReadyIn a c.args.options.now k c.in-Ok.register old new made.register made.lines made.passed) c.next-next.ensures
     (c.in-Ok-make_ready.ensures.ready c.args.store.now c.load.ensures.same) in
     let before = g.K.Sink.state c.args.sink.now in
     let after = g.K.Sink.state c.keep_and_tell.new.sink in
@@ -33,9 +32,8 @@ returns-in-Err-keep_and_tell-clause-fault g c =
     let w = kept_in around before after in
     let u = c.plain-in-Err-keep_and_tell in
     let f = c.in-Err-keep_and_tell.fault in
-    let untold = subst (λ (l : List ℕ). IsUntold around c.in-Ok.register made.register l before after f) c.deref.ensures.value
-    (c.in-Err-keep_and_tell.ensures.fault c.args.store.now c.in-Ok.register c.load.ensures.same c.in-Ok.ensures.came) in
-    inr (inr (c.in-Ok.register, made.register, made.lines.items, made.passed, ready, inr (plain_is (w.failed c.in-Ok.register made.register made.lines.items) u.result f u.ensures.fault u.ensures.notes untold)))
+    let untold = c.in-Err-keep_and_tell.ensures.fault c.args.store.now c.in-Ok.register c.load.ensures.same c.in-Ok.ensures.came in
+    inr (inr (c.in-Ok.register, made.register, made.lines, made.passed, ready, inr (plain_is (w.failed c.in-Ok.register made.register made.lines) u.result f u.ensures.fault u.ensures.notes untold)))
 
 pub returns-in-Ok-answer-clause-imported : goal.returns-in-Ok-answer-clause-imported
 returns-in-Ok-answer-clause-imported g c =
@@ -43,17 +41,16 @@ returns-in-Ok-answer-clause-imported g c =
     let made = c.in-Ok-make_ready.ready in
     let old = map g.F.Source.state c.args.files.now in
     let new = map g.F.Source.state c.make_ready.new.files in
-    let ready = subst (λ (k : ℕ). IsReadyIn a c.args.options.now k c.in-Ok.register old new made.register made.lines.items made.passed) c.next-next.ensures
+    let ready = subst (λ (k : ℕ). IsReadyIn a c.args.options.now k c.in-Ok.register old new made.register made.lines made.passed) c.next-next.ensures
     (c.in-Ok-make_ready.ensures.ready c.args.store.now c.load.ensures.same) in
     let before = g.K.Sink.state c.args.sink.now in
     let after = g.K.Sink.state c.keep_and_tell.new.sink in
     let around = g.T.Store.around c.args.store.now c.keep_and_tell.new.store in
-    let told = subst (λ (l : List ℕ). IsTold around c.in-Ok.register made.register l before after) c.deref.ensures.value
-    (c.in_default.ensures.told c.args.store.now c.in-Ok.register c.load.ensures.same c.in-Ok.ensures.came) in (
+    let told = c.in_default.ensures.told c.args.store.now c.in-Ok.register c.load.ensures.same c.in-Ok.ensures.came in (
       c.in-Ok.register,
       made.register,
-      made.lines.items,
-      subst (λ (p : Option Unimported). IsReadyIn a c.args.options.now (g.T.Store.next c.args.store.now) c.in-Ok.register old new made.register made.lines.items p) c.in-Ok-answer.ensures.done ready,
+      made.lines,
+      subst (λ (p : Option Unimported). IsReadyIn a c.args.options.now (g.T.Store.next c.args.store.now) c.in-Ok.register old new made.register made.lines p) c.in-Ok-answer.ensures.done ready,
       told,
     )
 
@@ -63,11 +60,10 @@ returns-clause-fault g c =
     let made = c.in-Ok-make_ready.ready in
     let old = map g.F.Source.state c.args.files.now in
     let new = map g.F.Source.state c.make_ready.new.files in
-    let ready = subst (λ (k : ℕ). IsReadyIn a c.args.options.now k c.in-Ok.register old new made.register made.lines.items made.passed) c.next-next.ensures
+    let ready = subst (λ (k : ℕ). IsReadyIn a c.args.options.now k c.in-Ok.register old new made.register made.lines made.passed) c.next-next.ensures
     (c.in-Ok-make_ready.ensures.ready c.args.store.now c.load.ensures.same) in
     let before = g.K.Sink.state c.args.sink.now in
     let after = g.K.Sink.state c.keep_and_tell.new.sink in
     let around = g.T.Store.around c.args.store.now c.keep_and_tell.new.store in
-    let told = subst (λ (l : List ℕ). IsTold around c.in-Ok.register made.register l before after) c.deref.ensures.value
-    (c.in_default.ensures.told c.args.store.now c.in-Ok.register c.load.ensures.same c.in-Ok.ensures.came) in
-    inr (inr (c.in-Ok.register, made.register, made.lines.items, made.passed, ready, inl (c.in-Err-answer.ensures.passed, told)))
+    let told = c.in_default.ensures.told c.args.store.now c.in-Ok.register c.load.ensures.same c.in-Ok.ensures.came in
+    inr (inr (c.in-Ok.register, made.register, made.lines, made.passed, ready, inl (c.in-Err-answer.ensures.passed, told)))

@@ -1,7 +1,5 @@
-use Rattle.std.proofs.Common.{List, ℕ, refl, subst, map, inl, inr}
+use Rattle.std.proofs.Common.{ℕ, refl, subst, map, inl, inr}
 use Rattle.std.specs.declared.option.Option.{Option}
-use Rattle.byte_io.specs.Whole.{WritesAll}
-use Rattle.reg_engine.specs.Store.{AreCut}
 use Rattle.reg_desk.specs.declared.import.fault.Unimported.{Unimported}
 use Rattle.reg_desk.specs.Import.{IsReadyIn, IsUnreadyIn}
 use Rattle.reg_desk.specs.ImportEngines.{tried_in}
@@ -26,13 +24,13 @@ returns-in-Err-has_room-clause-fault g c =
     let made = c.in-Ok-make_ready.ready in
     let old = map g.F.Source.state c.args.files.now in
     let new = map g.F.Source.state c.make_ready.new.files in
-    let ready = subst (λ (k : ℕ). IsReadyIn a c.args.options.now k c.in-Ok.register old new made.register made.lines.items made.passed) c.next-next.ensures
+    let ready = subst (λ (k : ℕ). IsReadyIn a c.args.options.now k c.in-Ok.register old new made.register made.lines made.passed) c.next-next.ensures
     (c.in-Ok-make_ready.ensures.ready c.args.store.now c.load.ensures.same) in
     let full = c.in-Err-has_room.ensures.full c.args.store.now c.in-Ok.register c.load.ensures.same c.in-Ok.ensures.came in
     let before = g.K.Sink.state c.args.sink.now in
     let w = tried_in (g.T.Store.around c.args.store.now c.has_room.new.self) (g.T.HasRoom.room c.args.store.now c.has_room.new.self) before before in
     let u = c.plain-in-Err-has_room in
-    inr (inr (c.in-Ok.register, made.register, made.lines.items, made.passed, ready, inr (plain_is (w.failed c.in-Ok.register made.register made.lines.items) u.result c.in-Err-has_room.fault u.ensures.fault u.ensures.notes (inl (full, refl)))))
+    inr (inr (c.in-Ok.register, made.register, made.lines, made.passed, ready, inr (plain_is (w.failed c.in-Ok.register made.register made.lines) u.result c.in-Err-has_room.fault u.ensures.fault u.ensures.notes (inl (full, refl)))))
 
 pub returns-in-Err-tell-clause-fault : goal.returns-in-Err-tell-clause-fault
 returns-in-Err-tell-clause-fault g c =
@@ -40,7 +38,7 @@ returns-in-Err-tell-clause-fault g c =
     let made = c.in-Ok-make_ready.ready in
     let old = map g.F.Source.state c.args.files.now in
     let new = map g.F.Source.state c.make_ready.new.files in
-    let ready = subst (λ (k : ℕ). IsReadyIn a c.args.options.now k c.in-Ok.register old new made.register made.lines.items made.passed) c.next-next.ensures
+    let ready = subst (λ (k : ℕ). IsReadyIn a c.args.options.now k c.in-Ok.register old new made.register made.lines made.passed) c.next-next.ensures
     (c.in-Ok-make_ready.ensures.ready c.args.store.now c.load.ensures.same) in
     let fits = c.in_default.ensures.fits c.args.store.now c.in-Ok.register c.load.ensures.same c.in-Ok.ensures.came in
     let before = g.K.Sink.state c.args.sink.now in
@@ -48,8 +46,8 @@ returns-in-Err-tell-clause-fault g c =
     let w = tried_in (g.T.Store.around c.args.store.now c.has_room.new.self) (g.T.HasRoom.room c.args.store.now c.has_room.new.self) before after in
     let u = c.plain-in-Err-tell in
     let f = c.in-Err-tell.fault in
-    let cut = subst (λ (l : List ℕ). AreCut l before after f) c.deref.ensures.value c.in-Err-tell.ensures.fault in
-    inr (inr (c.in-Ok.register, made.register, made.lines.items, made.passed, ready, inr (plain_is (w.failed c.in-Ok.register made.register made.lines.items) u.result f u.ensures.fault u.ensures.notes (inr (fits, cut)))))
+    let cut = c.in-Err-tell.ensures.fault in
+    inr (inr (c.in-Ok.register, made.register, made.lines, made.passed, ready, inr (plain_is (w.failed c.in-Ok.register made.register made.lines) u.result f u.ensures.fault u.ensures.notes (inr (fits, cut)))))
 
 pub returns-in-Ok-answer-clause-imported : goal.returns-in-Ok-answer-clause-imported
 returns-in-Ok-answer-clause-imported g c =
@@ -57,14 +55,14 @@ returns-in-Ok-answer-clause-imported g c =
     let made = c.in-Ok-make_ready.ready in
     let old = map g.F.Source.state c.args.files.now in
     let new = map g.F.Source.state c.make_ready.new.files in
-    let ready = subst (λ (k : ℕ). IsReadyIn a c.args.options.now k c.in-Ok.register old new made.register made.lines.items made.passed) c.next-next.ensures
+    let ready = subst (λ (k : ℕ). IsReadyIn a c.args.options.now k c.in-Ok.register old new made.register made.lines made.passed) c.next-next.ensures
     (c.in-Ok-make_ready.ensures.ready c.args.store.now c.load.ensures.same) in
     let fits = c.in_default.ensures.fits c.args.store.now c.in-Ok.register c.load.ensures.same c.in-Ok.ensures.came in
-    let all = subst (λ (l : List ℕ). WritesAll l (g.K.Sink.state c.args.sink.now) (g.K.Sink.state c.tell.new.sink)) c.deref.ensures.value c.in_default-tell.ensures.written in (
+    let all = c.in_default-tell.ensures.written in (
       c.in-Ok.register,
       made.register,
-      made.lines.items,
-      subst (λ (p : Option Unimported). IsReadyIn a c.args.options.now (g.T.Store.next c.args.store.now) c.in-Ok.register old new made.register made.lines.items p) c.in-Ok-answer.ensures.done ready,
+      made.lines,
+      subst (λ (p : Option Unimported). IsReadyIn a c.args.options.now (g.T.Store.next c.args.store.now) c.in-Ok.register old new made.register made.lines p) c.in-Ok-answer.ensures.done ready,
       (fits, all),
     )
 
@@ -74,8 +72,8 @@ returns-clause-fault g c =
     let made = c.in-Ok-make_ready.ready in
     let old = map g.F.Source.state c.args.files.now in
     let new = map g.F.Source.state c.make_ready.new.files in
-    let ready = subst (λ (k : ℕ). IsReadyIn a c.args.options.now k c.in-Ok.register old new made.register made.lines.items made.passed) c.next-next.ensures
+    let ready = subst (λ (k : ℕ). IsReadyIn a c.args.options.now k c.in-Ok.register old new made.register made.lines made.passed) c.next-next.ensures
     (c.in-Ok-make_ready.ensures.ready c.args.store.now c.load.ensures.same) in
     let fits = c.in_default.ensures.fits c.args.store.now c.in-Ok.register c.load.ensures.same c.in-Ok.ensures.came in
-    let all = subst (λ (l : List ℕ). WritesAll l (g.K.Sink.state c.args.sink.now) (g.K.Sink.state c.tell.new.sink)) c.deref.ensures.value c.in_default-tell.ensures.written in
-    inr (inr (c.in-Ok.register, made.register, made.lines.items, made.passed, ready, inl (c.in-Err-answer.ensures.passed, (fits, all))))
+    let all = c.in_default-tell.ensures.written in
+    inr (inr (c.in-Ok.register, made.register, made.lines, made.passed, ready, inl (c.in-Err-answer.ensures.passed, (fits, all))))

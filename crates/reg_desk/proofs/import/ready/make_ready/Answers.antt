@@ -27,8 +27,8 @@ returns-in-Ok-made-clause-ready g c = λ was same.
     let old = map g.F.Source.state c.args.files.now in
     let new = map g.F.Source.state c.read_files.new.files in
     let r = c.in-Ok-made.ready in
-    let made = subst (λ (b : List (Vec ℕ _)). Makes c.args.options.now c.args.first c.in-Ok-admit.register (bytes_of b) r.register r.lines.items r.passed) c.deref.ensures.value c.in-Ok-made.ensures.made in
-    works_on (g.T.Store.admission was) (λ z. IsReady c.args.options.now c.args.first z old new r.register r.lines.items r.passed) c.args.loaded c.in-Ok-admit.register
+    let made = subst (λ (b : List (Vec ℕ _)). Makes c.args.options.now c.args.first c.in-Ok-admit.register (bytes_of b) r.register r.lines r.passed) c.deref.ensures.value c.in-Ok-made.ensures.made in
+    works_on (g.T.Store.admission was) (λ z. IsReady c.args.options.now c.args.first z old new r.register r.lines r.passed) c.args.loaded c.in-Ok-admit.register
     (c.in-Ok-admit.ensures.admits was same) (bytes_of c.in-Ok.bytes.items, c.in-Ok.ensures.give, made)
 
 pub returns-clause-fault : goal.returns-clause-fault

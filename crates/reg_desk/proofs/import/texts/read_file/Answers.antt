@@ -12,7 +12,7 @@ loop-cut-init c =
     let place = c.begin-place.result in
     record {
       left = omega (arith, ap length (take_rest bytes place) ∙ length-drop place bytes, c.begin-place.ensures.within);
-      was = none_yet c.args.file bytes (map text_at c.args.cuts.now.items) c.args.texts.now.items place _ c.begin-place.ensures.is (take_rest bytes place);
+      was = none_yet c.args.explain c.args.file bytes (map text_at c.args.cuts.now.items) c.args.texts.now.items place _ c.begin-place.ensures.is (take_rest bytes place);
     }
 
 pub loop-cut-preserved : goal.loop-cut-preserved
@@ -21,7 +21,7 @@ loop-cut-preserved c =
     let was = c.loop-cut.invariant in
     record {
       left = omega (arith, was.left, next_len c.loop-cut.place c.loop-cut.rest.now (piece_of c.in-Some.cut) c.in-Some.later.now next);
-      was = one_more c.args.file c.args.bytes.now (map text_at c.args.cuts.now.items) c.args.texts.now.items c.args.keep_going c.loop-cut.place c.loop-cut.rest.now c.in-Some.later.now (piece_of c.in-Some.cut) c.in_ok-ends.ends
+      was = one_more c.args.explain c.args.file c.args.bytes.now (map text_at c.args.cuts.now.items) c.args.texts.now.items c.args.keep_going c.loop-cut.place c.loop-cut.rest.now c.in-Some.later.now (piece_of c.in-Some.cut) c.in_ok-ends.ends
           (map text_at c.loop-cut.cuts.items) (map text_at c.push_text.new.cuts.items) c.loop-cut.texts.items c.push_text.new.texts.items was.was next c.in_ok-ends.ensures;
     }
 
@@ -30,10 +30,10 @@ loop-cut-smaller c = next_less c.loop-cut.place c.loop-cut.rest.now (piece_of c.
 
 pub returns-then-ends : goal.returns-then-ends
 returns-then-ends c =
-    ends_here c.args.file c.args.bytes.now (map text_at c.args.cuts.now.items) c.args.texts.now.items c.args.keep_going c.loop-cut.place c.loop-cut.rest.now c.in-Some.later.now (piece_of c.in-Some.cut) c.in_ok-ends.ends
+    ends_here c.args.explain c.args.file c.args.bytes.now (map text_at c.args.cuts.now.items) c.args.texts.now.items c.args.keep_going c.loop-cut.place c.loop-cut.rest.now c.in-Some.later.now (piece_of c.in-Some.cut) c.in_ok-ends.ends
     (map text_at c.loop-cut.cuts.items) (map text_at c.push_text.new.cuts.items) c.loop-cut.texts.items c.push_text.new.texts.items c.loop-cut.invariant.was c.in-Some.ensures.some c.in_ok-ends.ensures c.if-ends.true
 
 pub returns : goal.returns
 returns c =
-    file_done c.args.file c.args.bytes.now (map text_at c.args.cuts.now.items) c.args.texts.now.items c.args.keep_going c.loop-cut.place c.loop-cut.rest.now (map text_at c.loop-cut.cuts.items) c.loop-cut.texts.items
+    file_done c.args.explain c.args.file c.args.bytes.now (map text_at c.args.cuts.now.items) c.args.texts.now.items c.args.keep_going c.loop-cut.place c.loop-cut.rest.now (map text_at c.loop-cut.cuts.items) c.loop-cut.texts.items
     c.loop-cut.invariant.was c.in_default.ensures.none

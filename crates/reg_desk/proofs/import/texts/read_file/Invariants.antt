@@ -6,7 +6,7 @@ use Rattle.reg_desk.proofs.import.texts.read_file.Given as goal
 abbrev pub invariant-loop-cut : goal.invariant-loop-cut
 invariant-loop-cut l = record {
   left : l.place + length l.rest ≡ length l.bytes;
-  was : SoFar l.file l.bytes l.place l.rest (map text_at l.initial.cuts.items) (map text_at l.cuts.items) l.initial.texts.items l.texts.items;
+  was : SoFar l.explain l.file l.bytes l.place l.rest (map text_at l.initial.cuts.items) (map text_at l.cuts.items) l.initial.texts.items l.texts.items;
 }
 
 abbrev pub decreases-loop-cut : goal.decreases-loop-cut

@@ -1,0 +1,12 @@
+//! Rows that take a few bytes each: they are packed as they are appended, and unpacked as they are written.
+#![tactic(auto)]
+
+mod rows;
+mod step;
+#[cfg(test)]
+mod tests;
+mod waiting;
+mod window;
+mod writing;
+
+pub use rows::PackedRows;
