@@ -1,6 +1,7 @@
 -- Paths of all processes of a trace, if each of them has one.
 use Rattle.std.proofs.Common.{◌≡◌, inl, inr, ℕ, Bool, true, false, List, [], ◌∷◌, Option, Some, None, eqb, refl, sym, ◌∙◌, ap, subst, cond}
 use Rattle.std.proofs.Math.Logic.{∥∥₁_prop, ∥∥₁_map, ∥∥₁_elim}
+use Rattle.std.proofs.lemmas.Bool.{false≢true}
 use Rattle.std.proofs.lemmas.Bool.Decides.{eqb_tells}
 use Rattle.byte_system.specs.Disk.{numbered, Event}
 use Rattle.byte_system.specs.System.{own}
@@ -11,9 +12,6 @@ use Rattle.byte_protocol.proofs.Paths.{own_other}
 abbrev is_in : ℕ → List ℕ → Bool
 is_in k [] = false
 is_in k (n ∷ ns) = cond (eqb k n) true (is_in k ns)
-
-false_true : false ≡ true → ⊥
-false_true e = cc
 
 -- lists of moves, one for each of these processes, and none for the others
 record Chosen (Q : ℕ → List Move → Type 0) (ns : List ℕ) : Type 0 where
@@ -29,13 +27,13 @@ one_chosen Q n ns ms q c = record {
     | inr (f, ne) ↦ subst (λ b. Q k (cond b ms (c.paths k))) (sym f) (c.here k (sym (ap (λ b. cond b true (is_in k ns)) f) ∙ e))
   ];
   none = λ k e. elim (eqb_tells k n) [
-    | inl (t, same) ↦ absurd (false_true (sym e ∙ ap (λ b. cond b true (is_in k ns)) t))
+    | inl (t, same) ↦ absurd (false≢true (sym e ∙ ap (λ b. cond b true (is_in k ns)) t))
     | inr (f, ne) ↦ ap (λ b. cond b ms (c.paths k)) f ∙ c.none k (sym (ap (λ b. cond b true (is_in k ns)) f) ∙ e)
   ];
 }
 
 choose : (Q : ℕ → List Move → Type 0) (ns : List ℕ) → ((k : ℕ) → ∥ ((ms : List Move) × Q k ms) ∥₁) → ∥ Chosen Q ns ∥₁
-choose Q [] each = ∣ record { paths = λ k. []; here = λ k e. absurd (false_true e); none = λ k e. refl } ∣₁
+choose Q [] each = ∣ record { paths = λ k. []; here = λ k e. absurd (false≢true e); none = λ k e. refl } ∣₁
 choose Q (n ∷ ns) each = ∥∥₁_elim (each n) ∥∥₁_prop (λ m. ∥∥₁_map (choose Q ns each) (λ c. one_chosen Q n ns m.0 m.1 c))
 
 -- the processes of a trace
@@ -46,7 +44,7 @@ bys (e ∷ es) = e.by ∷ bys es
 own_none : (k : ℕ) (es : List Event) → is_in k (bys es) ≡ false → own k es ≡ []
 own_none k [] e = refl
 own_none k (v ∷ es) e = elim (eqb_tells k v.by) [
-  | inl (t, same) ↦ absurd (false_true (sym e ∙ ap (λ b. cond b true (is_in k (bys es))) t))
+  | inl (t, same) ↦ absurd (false≢true (sym e ∙ ap (λ b. cond b true (is_in k (bys es))) t))
   | inr (f, ne) ↦ own_other k v es (λ q. ne (sym q)) ∙ own_none k es (sym (ap (λ b. cond b true (is_in k (bys es))) f) ∙ e)
 ]
 

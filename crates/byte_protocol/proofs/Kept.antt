@@ -1,7 +1,9 @@
 -- What holds after any events of processes that follow the protocol.
-use Rattle.std.proofs.Common.{◌≡◌, ◌≢◌, ◌⊎◌, inl, inr, ℕ, Bool, true, false, List, [], ◌∷◌, ◌++◌, Option, Some, None, take, drop, ◌+◌, eqb, refl, sym, ◌∙◌, ap, subst, cond, arith}
-use Rattle.std.proofs.lemmas.Bool.Decides.{eqb_tells, nat_tests}
+use Rattle.std.proofs.Common.{◌≡◌, ◌≢◌, ◌⊎◌, inl, inr, ℕ, true, List, [], ◌∷◌, ◌++◌, Option, Some, None, take, drop, ◌+◌, refl, sym, ◌∙◌, ap, subst, cond}
+use Rattle.std.proofs.lemmas.Bool.{false_from_ne_true, eq-eqb}
+use Rattle.std.proofs.lemmas.Bool.Decides.{eqb_tells}
 use Rattle.std.proofs.lemmas.List.{take-append-drop}
+use Rattle.std.proofs.lemmas.Option.{same_Some}
 use Rattle.std.proofs.Math.Seq.{take-add}
 use lib.Pointwise.{bytes_decides}
 use Rattle.byte_system.specs.Disk.{Content, content_of, content, named, numbered, released, Disk, Makes, Locks, Writes, Renames, Unlinks, Ends, step, after, Gives, Honest}
@@ -68,11 +70,8 @@ spared j m d e s (Replaced x) f = tt
 spared j m d e s ReplacedUnread f = tt
 spared j m d e s Ended f = tt
 
-pub same_number : (k : ℕ) → eqb k k ≡ true
-same_number k = grind (arith, nat_tests)
-
 pub numbered_at : {A : Type 0} (f : ℕ → A) (i : ℕ) (a : A) → numbered f i a i ≡ a
-numbered_at f i a = ap (λ b. cond b a (f i)) (same_number i)
+numbered_at f i a = ap (λ b. cond b a (f i)) (eq-eqb i i refl)
 
 pub numbered_other : {A : Type 0} (f : ℕ → A) (i : ℕ) (a : A) (j : ℕ) → j ≢ i → numbered f i a j ≡ f j
 numbered_other f i a j ne =
@@ -81,22 +80,14 @@ numbered_other f i a j ne =
       | inr (n, e) ↦ ap (λ b. cond b a (f j)) n
     ]
 
-is_false : (b : Bool) → (b ≡ true → ⊥) → b ≡ false
-is_false true never = absurd (never refl)
-is_false false never = refl
-
 pub named_at : (f : List ℕ → Option ℕ) (p : List ℕ) (v : Option ℕ) → named f p v p ≡ v
 named_at f p v = ap (λ b. cond b v (f p)) ((bytes_decides p p).1 refl)
 
 pub named_other : (f : List ℕ → Option ℕ) (p : List ℕ) (v : Option ℕ) (q : List ℕ) → q ≢ p → named f p v q ≡ f q
-named_other f p v q ne = ap (λ b. cond b v (f q)) (is_false _ (λ e. ne ((bytes_decides q p).0 e)))
-
-abbrev or_zero : Option ℕ → ℕ
-or_zero None = 0
-or_zero (Some n) = n
+named_other f p v q ne = ap (λ b. cond b v (f q)) (false_from_ne_true _ (λ e. ne ((bytes_decides q p).0 e)))
 
 pub not_both : (x : Option ℕ) (m k : ℕ) → m ≢ k → x ≡ Some m → x ≡ Some k → ⊥
-not_both x m k ne a b = ne (ap or_zero (sym a ∙ b))
+not_both x m k ne a b = ne (same_Some m k (sym a ∙ b))
 
 pub none_some : (x : Option ℕ) (k : ℕ) → x ≡ None → x ≡ Some k → ⊥
 none_some x k a b = cc
@@ -104,7 +95,7 @@ none_some x k a b = cc
 -- two processes do not both own the new name
 one_owner : (j : Job) (d : Disk) (m k i n : ℕ) → m ≢ k → IsOwn j m d i → IsOwn j k d n → ⊥
 one_owner j d m k i n ne a b =
-    let same : i ≡ n = ap or_zero (sym a.named ∙ b.named) in
+    let same : i ≡ n = same_Some i n (sym a.named ∙ b.named) in
     not_both (d.holder n) m k ne (subst (λ q. d.holder q ≡ Some m) same a.held) b.held
 
 -- what holds of the new stage of one process, and of the stages of all others, holds of each stage
@@ -138,7 +129,7 @@ makes_spares j d k i m g ne = record {
 
 makes_apart : (j : Job) (d : Disk) (k i : ℕ) → j.new ≢ j.out → Gives d k (Makes j.new (Some i)) → AreApart j (step d k (Makes j.new (Some i)))
 makes_apart j d k i two g n e f =
-    let same : i ≡ n = ap or_zero (sym (named_at d.names j.new (Some i)) ∙ e) in
+    let same : i ≡ n = same_Some i n (sym (named_at d.names j.new (Some i)) ∙ e) in
     let was : d.names j.out ≡ Some n = sym (named_other d.names j.new (Some i) j.out (λ q. two (sym q))) ∙ f in
     g.1.nameless j.out (was ∙ ap Some (sym same))
 
@@ -199,7 +190,7 @@ pub still_held : (x : Option ℕ) (k m : ℕ) → m ≢ k → x ≡ Some m → r
 still_held None k m ne e = cc
 still_held (Some n) k m ne e =
     elim (eqb_tells n k) [
-      | inl (t, same) ↦ absurd (ne (ap or_zero (sym e) ∙ same))
+      | inl (t, same) ↦ absurd (ne (same_Some m n (sym e) ∙ same))
       | inr (f, other) ↦ ap (λ b. cond b None (Some n)) f ∙ e
     ]
 

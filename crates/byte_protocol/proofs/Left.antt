@@ -1,12 +1,14 @@
 -- What is left of OUT after a loss of power.
 use Rattle.std.proofs.Common.{◌≡◌, ◌≢◌, ◌⊎◌, inl, inr, ℕ, Bool, true, false, List, [], ◌∷◌, ◌++◌, Option, Some, None, take, drop, bytes_eq, eqb, refl, sym, ◌∙◌, ap, subst, cond}
+use Rattle.std.proofs.lemmas.Bool.{both_ways, eq-eqb}
 use Rattle.std.proofs.lemmas.Bool.Decides.{eqb_tells}
+use Rattle.std.proofs.lemmas.Option.{none-some, same_Some}
 use lib.Pointwise.{bytes_decides}
 use Rattle.byte_system.specs.Disk.{Content, content_of, content, named, Disk, Event, Call, Makes, Opens, Locks, Looks, Writes, Truncates, Syncs, Reads, Compares, Renames, Unlinks, SyncsFolder, Finds, Likens, Fails, Ends, step, after}
 use Rattle.byte_protocol.specs.Protocol.{IsWhole, IsSynced, FoundSame, IsPart, Stage, Begins, HasMade, HasLocked, Owns, Fills, HasLeft, Sweeps, Replaced, ReplacedUnread, Ended, Move, MakesNew, LocksOwn, FindsOwn, GivesUp, WritesAll, WritesPart, WritesMore, WritesRest, SyncsNew, FindsSame, Puts, PutsUnread, Withdraws, LocksLeft, FindsLeft, SweepsLeft, Strays, Forgets, Dies, Job, from, dead, to, finds_call, call_of, IsFair, Deed, events, stages, Follows, IsStart, AreRead}
 use Rattle.byte_protocol.specs.Unread.{UnreadHave}
 use Rattle.byte_protocol.specs.Cuts.{clean_after, is_clean, MayLead, IsLeft, IsSince, WasAt, written, Spares, AreSparing}
-use Rattle.byte_protocol.proofs.Kept.{same_number, numbered_at, numbered_other, named_at, named_other, not_both, at_each, IsOwn, Fits, always, whole}
+use Rattle.byte_protocol.proofs.Kept.{numbered_at, numbered_other, named_at, named_other, not_both, at_each, IsOwn, Fits, always, whole}
 use Rattle.byte_protocol.proofs.Put.{fewer, stays, is_kept, read_have, later_have, earlier_have}
 
 -- what is known of the files of a stage: before the name OUT is taken, the new file never had it, and once it is synced, it stays clean
@@ -22,13 +24,6 @@ IsSafe j first es s = Unit {0}
 record AreSafe (j : Job) (first : Disk) (es : List Event) (stage : ℕ → Stage) : Type 0 where
   each : (k : ℕ) → IsSafe j first es (stage k)
   clean : (i : ℕ) → WasAt first es j.out i → is_clean es i ≡ true
-
-none_is_some : (i : ℕ) → None ≡ Some i → ⊥
-none_is_some i e = cc
-
-abbrev or_zero : Option ℕ → ℕ
-or_zero None = 0
-or_zero (Some n) = n
 
 -- a call that does not write to a file leaves its bytes, and what is on the disk
 record Leaves (d : Disk) (k i : ℕ) (c : Call) : Type 0 where
@@ -74,8 +69,8 @@ leaves d k i Fails ne = idle d k i Fails refl (λ b. refl)
 leaves d k i Ends ne = idle d k i Ends refl (λ b. refl)
 
 finds_unwritten : (out : List ℕ) (x : Content) (i : ℕ) → written (finds_call out x) ≡ Some i → ⊥
-finds_unwritten out None i e = none_is_some i e
-finds_unwritten out (Some read) i e = none_is_some i e
+finds_unwritten out None i e = none-some i e
+finds_unwritten out (Some read) i e = none-some i e
 
 now_was : (first : Disk) (es : List Event) (p : List ℕ) (i : ℕ) → (after first es).names p ≡ Some i → WasAt first es p i
 now_was first [] p i e = e
@@ -84,52 +79,52 @@ now_was first (v ∷ es) p i e = inl e
 -- no move writes to a file that had the name OUT
 unwritten : (j : Job) (first : Disk) (es : List Event) (k : ℕ) (m : Move) → IsSafe j first es (from m) → Spares j first es m → (i : ℕ) → WasAt first es j.out i
     → written (call_of j k m) ≡ Some i → ⊥
-unwritten j first es k (MakesNew n) s sp i w e = none_is_some i e
-unwritten j first es k (LocksOwn n) s sp i w e = none_is_some i e
-unwritten j first es k (FindsOwn n) s sp i w e = none_is_some i e
-unwritten j first es k (GivesUp n) s sp i w e = none_is_some i e
-unwritten j first es k (WritesAll x n) s sp i w e = s (subst (WasAt first es j.out) (sym (ap or_zero e)) w)
-unwritten j first es k (WritesPart x n l) s sp i w e = s (subst (WasAt first es j.out) (sym (ap or_zero e)) w)
-unwritten j first es k (WritesMore x n l m) s sp i w e = s (subst (WasAt first es j.out) (sym (ap or_zero e)) w)
-unwritten j first es k (WritesRest x n l) s sp i w e = s (subst (WasAt first es j.out) (sym (ap or_zero e)) w)
-unwritten j first es k (SyncsNew x n) s sp i w e = none_is_some i e
+unwritten j first es k (MakesNew n) s sp i w e = none-some i e
+unwritten j first es k (LocksOwn n) s sp i w e = none-some i e
+unwritten j first es k (FindsOwn n) s sp i w e = none-some i e
+unwritten j first es k (GivesUp n) s sp i w e = none-some i e
+unwritten j first es k (WritesAll x n) s sp i w e = s (subst (WasAt first es j.out) (sym (same_Some n i e)) w)
+unwritten j first es k (WritesPart x n l) s sp i w e = s (subst (WasAt first es j.out) (sym (same_Some n i e)) w)
+unwritten j first es k (WritesMore x n l m) s sp i w e = s (subst (WasAt first es j.out) (sym (same_Some n i e)) w)
+unwritten j first es k (WritesRest x n l) s sp i w e = s (subst (WasAt first es j.out) (sym (same_Some n i e)) w)
+unwritten j first es k (SyncsNew x n) s sp i w e = none-some i e
 unwritten j first es k (FindsSame x n) s sp i w e = finds_unwritten j.out x i e
-unwritten j first es k (Puts x n) s sp i w e = none_is_some i e
-unwritten j first es k (PutsUnread n) s sp i w e = none_is_some i e
-unwritten j first es k (Withdraws x n p) s sp i w e = none_is_some i e
-unwritten j first es k (LocksLeft n) s sp i w e = none_is_some i e
-unwritten j first es k (FindsLeft n) s sp i w e = none_is_some i e
-unwritten j first es k (SweepsLeft n) s sp i w e = none_is_some i e
+unwritten j first es k (Puts x n) s sp i w e = none-some i e
+unwritten j first es k (PutsUnread n) s sp i w e = none-some i e
+unwritten j first es k (Withdraws x n p) s sp i w e = none-some i e
+unwritten j first es k (LocksLeft n) s sp i w e = none-some i e
+unwritten j first es k (FindsLeft n) s sp i w e = none-some i e
+unwritten j first es k (SweepsLeft n) s sp i w e = none-some i e
 unwritten j first es k (Strays s c) f sp i w e = (sp i e).0 w
 unwritten j first es k (Forgets s c) f sp i w e = (sp i e).0 w
-unwritten j first es k (Dies s) f sp i w e = none_is_some i e
+unwritten j first es k (Dies s) f sp i w e = none-some i e
 
 -- and none to the new file of another process
 unwritten_other : (j : Job) (first : Disk) (es : List Event) (k : ℕ) (m : Move) → Fits j k (after first es) (from m) → Spares j first es m
     → (q i : ℕ) → q ≢ k → (after first es).maker i ≡ Some q → IsOwn j q (after first es) i → written (call_of j k m) ≡ Some i → ⊥
-unwritten_other j first es k (MakesNew n) f sp q i ne made o e = none_is_some i e
-unwritten_other j first es k (LocksOwn n) f sp q i ne made o e = none_is_some i e
-unwritten_other j first es k (FindsOwn n) f sp q i ne made o e = none_is_some i e
-unwritten_other j first es k (GivesUp n) f sp q i ne made o e = none_is_some i e
+unwritten_other j first es k (MakesNew n) f sp q i ne made o e = none-some i e
+unwritten_other j first es k (LocksOwn n) f sp q i ne made o e = none-some i e
+unwritten_other j first es k (FindsOwn n) f sp q i ne made o e = none-some i e
+unwritten_other j first es k (GivesUp n) f sp q i ne made o e = none-some i e
 unwritten_other j first es k (WritesAll x n) f sp q i ne made o e =
-    not_both ((after first es).maker i) q k ne made (subst (λ a. (after first es).maker a ≡ Some k) (ap or_zero e) f.0)
+    not_both ((after first es).maker i) q k ne made (subst (λ a. (after first es).maker a ≡ Some k) (same_Some n i e) f.0)
 unwritten_other j first es k (WritesPart x n l) f sp q i ne made o e =
-    not_both ((after first es).maker i) q k ne made (subst (λ a. (after first es).maker a ≡ Some k) (ap or_zero e) f.0)
+    not_both ((after first es).maker i) q k ne made (subst (λ a. (after first es).maker a ≡ Some k) (same_Some n i e) f.0)
 unwritten_other j first es k (WritesMore x n l m) f sp q i ne made o e =
-    not_both ((after first es).maker i) q k ne made (subst (λ a. (after first es).maker a ≡ Some k) (ap or_zero e) f.0)
+    not_both ((after first es).maker i) q k ne made (subst (λ a. (after first es).maker a ≡ Some k) (same_Some n i e) f.0)
 unwritten_other j first es k (WritesRest x n l) f sp q i ne made o e =
-    not_both ((after first es).maker i) q k ne made (subst (λ a. (after first es).maker a ≡ Some k) (ap or_zero e) f.0)
-unwritten_other j first es k (SyncsNew x n) f sp q i ne made o e = none_is_some i e
+    not_both ((after first es).maker i) q k ne made (subst (λ a. (after first es).maker a ≡ Some k) (same_Some n i e) f.0)
+unwritten_other j first es k (SyncsNew x n) f sp q i ne made o e = none-some i e
 unwritten_other j first es k (FindsSame x n) f sp q i ne made o e = finds_unwritten j.out x i e
-unwritten_other j first es k (Puts x n) f sp q i ne made o e = none_is_some i e
-unwritten_other j first es k (PutsUnread n) f sp q i ne made o e = none_is_some i e
-unwritten_other j first es k (Withdraws x n p) f sp q i ne made o e = none_is_some i e
-unwritten_other j first es k (LocksLeft n) f sp q i ne made o e = none_is_some i e
-unwritten_other j first es k (FindsLeft n) f sp q i ne made o e = none_is_some i e
-unwritten_other j first es k (SweepsLeft n) f sp q i ne made o e = none_is_some i e
+unwritten_other j first es k (Puts x n) f sp q i ne made o e = none-some i e
+unwritten_other j first es k (PutsUnread n) f sp q i ne made o e = none-some i e
+unwritten_other j first es k (Withdraws x n p) f sp q i ne made o e = none-some i e
+unwritten_other j first es k (LocksLeft n) f sp q i ne made o e = none-some i e
+unwritten_other j first es k (FindsLeft n) f sp q i ne made o e = none-some i e
+unwritten_other j first es k (SweepsLeft n) f sp q i ne made o e = none-some i e
 unwritten_other j first es k (Strays s c) f sp q i ne made o e = (sp i e).1 (now_was first es j.new i o.named)
 unwritten_other j first es k (Forgets s c) f sp q i ne made o e = (sp i e).1 (now_was first es j.new i o.named)
-unwritten_other j first es k (Dies s) f sp q i ne made o e = none_is_some i e
+unwritten_other j first es k (Dies s) f sp q i ne made o e = none-some i e
 
 -- a file that gets the name OUT was made by the process that renames it, is clean, and is not written to
 abbrev ComesTo : Job → Disk → List Event → ℕ → Move → ℕ → Type 0
@@ -154,13 +149,13 @@ comes j first es k (FindsSame (Some read) n) two f s fair i e = inl e
 comes j first es k (Puts x n) two f s fair i e =
     let names = (after first es).names in
     let at : named names j.out (names j.new) j.out ≡ Some i = stays_out j (named names j.out (names j.new)) None i two e in
-    let is : n ≡ i = ap or_zero (sym f.1.named ∙ sym (named_at names j.out (names j.new)) ∙ at) in
-    inr (subst (ComesTo j first es k (Puts x n)) is (f.0, s, λ w. none_is_some n w))
+    let is : n ≡ i = same_Some n i (sym f.1.named ∙ sym (named_at names j.out (names j.new)) ∙ at) in
+    inr (subst (ComesTo j first es k (Puts x n)) is (f.0, s, λ w. none-some n w))
 comes j first es k (PutsUnread n) two f s fair i e =
     let names = (after first es).names in
     let at : named names j.out (names j.new) j.out ≡ Some i = stays_out j (named names j.out (names j.new)) None i two e in
-    let is : n ≡ i = ap or_zero (sym f.1.named ∙ sym (named_at names j.out (names j.new)) ∙ at) in
-    inr (subst (ComesTo j first es k (PutsUnread n)) is (f.0, s, λ w. none_is_some n w))
+    let is : n ≡ i = same_Some n i (sym f.1.named ∙ sym (named_at names j.out (names j.new)) ∙ at) in
+    inr (subst (ComesTo j first es k (PutsUnread n)) is (f.0, s, λ w. none-some n w))
 comes j first es k (Withdraws x n p) two f s fair i e = inl (stays_out j (after first es).names None i two e)
 comes j first es k (LocksLeft n) two f s fair i e = inl e
 comes j first es k (FindsLeft n) two f s fair i e = inl e
@@ -224,7 +219,7 @@ own_safe j first es k (WritesPart x n l) two f s fair sp = λ w. s (was_before f
 own_safe j first es k (WritesMore x n l m) two f s fair sp =
     λ w. s (was_before first (record { by = k; call = Writes n (take m (drop l (j.change k x))) }) es j.out n (λ e. e) w)
 own_safe j first es k (WritesRest x n l) two f s fair sp = tt
-own_safe j first es k (SyncsNew x n) two f s fair sp = ap (λ q. cond q true (is_clean es n)) (same_number n)
+own_safe j first es k (SyncsNew x n) two f s fair sp = ap (λ q. cond q true (is_clean es n)) (eq-eqb n n refl)
 own_safe j first es k (FindsSame None n) two f s fair sp = s
 own_safe j first es k (FindsSame (Some read) n) two f s fair sp = s
 own_safe j first es k (Puts x n) two f s fair sp = tt
@@ -344,9 +339,6 @@ dropped : (j : Job) (first : Disk) (later earlier : List Deed) → Follows j fir
 dropped j first [] earlier f = f
 dropped j first (e ∷ later) earlier f = dropped j first later earlier (fewer j first e (later ++ earlier) f)
 
-not_both_bits : (b : Bool) → b ≡ true → b ≡ false → ⊥
-not_both_bits b t f = cc
-
 abbrev syncs_out : Job → ℕ → Stage → Deed
 syncs_out j k t = record { by = k; move = Strays t (SyncsFolder j.out) }
 
@@ -357,7 +349,7 @@ kept_since : (j : Job) (first : Disk) → IsStart j first → (P : Content → T
     → (c : Content) → IsSince first (events j (later ++ (syncs_out j k t ∷ earlier))) j.out c → P c
 kept_since j first s P keep [] earlier k t f u p c i = elim i [
   | inl now ↦ subst P now p
-  | inr b ↦ absurd (not_both_bits (bytes_eq j.out j.out) ((bytes_decides j.out j.out).1 refl) b.0)
+  | inr b ↦ absurd (both_ways (bytes_eq j.out j.out) b.0 ((bytes_decides j.out j.out).1 refl))
 ]
 kept_since j first s P keep (e ∷ later) earlier k t f u p c i = elim i [
   | inl now ↦ subst P now (stays j first s P keep (e ∷ later) (syncs_out j k t ∷ earlier) f u p)

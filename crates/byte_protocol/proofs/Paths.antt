@@ -1,16 +1,17 @@
 -- A trace in which the calls of each process are those of a path of moves is a list of deeds; and the path of `replace`.
 use Rattle.std.proofs.Common.{◌≡◌, ◌≢◌, inl, inr, ℕ, zero, suc, List, [], ◌∷◌, Option, drop, refl, sym, ◌∙◌, ap, subst, cond}
+use Rattle.std.proofs.lemmas.Bool.{eq-eqb}
 use Rattle.std.proofs.lemmas.Bool.Decides.{eqb_tells}
 use Rattle.byte_system.specs.Disk.{numbered, Disk, Event, Call, Ends, SyncsFolder, step, after, Honest}
 use Rattle.byte_system.specs.System.{SystemState, own, calls}
 use Rattle.byte_protocol.specs.Replacing.{replacing, reserved, Replaces}
 use Rattle.byte_protocol.specs.Protocol.{Stage, Begins, Move, MakesNew, LocksOwn, FindsOwn, GivesUp, WritesAll, WritesPart, WritesMore, WritesRest, SyncsNew, FindsSame, Puts, PutsUnread, Withdraws, LocksLeft, FindsLeft, SweepsLeft, Strays, Forgets, Dies, Job, to, IsElsewhere, IsFair, Deed, events, stages, Chains, AreFair, Follows, end, IsPath, calls_of, ChangesNone, IsIdle, AreIdle, finished, rest, deed, deeds, ArePaths}
 use Rattle.byte_protocol.specs.Unread.{HasRead, HasReadIf}
-use Rattle.byte_protocol.proofs.Kept.{same_number, numbered_at, numbered_other}
+use Rattle.byte_protocol.proofs.Kept.{numbered_at, numbered_other}
 use Rattle.byte_protocol.proofs.Led.{put_led, put_then}
 
 pub own_here : (e : Event) (es : List Event) → own e.by (e ∷ es) ≡ e.call ∷ own e.by es
-own_here e es = ap (λ b. cond b (e.call ∷ own e.by es) (own e.by es)) (same_number e.by)
+own_here e es = ap (λ b. cond b (e.call ∷ own e.by es) (own e.by es)) (eq-eqb e.by e.by refl)
 
 pub own_other : (k : ℕ) (e : Event) (es : List Event) → e.by ≢ k → own k (e ∷ es) ≡ own k es
 own_other k e es ne =

@@ -1,6 +1,7 @@
 -- What holds after any turns of processes that write OUT in place, or put another file there under its lock.
-use Rattle.std.proofs.Common.{◌≡◌, ◌≢◌, ◌⊎◌, inl, inr, ℕ, true, List, [], ◌∷◌, ◌++◌, Option, Some, None, length, take, drop, ◌+◌, refl, sym, ◌∙◌, ap, subst, cond}
+use Rattle.std.proofs.Common.{◌≡◌, ◌≢◌, ◌⊎◌, inl, inr, ℕ, true, List, [], ◌∷◌, ◌++◌, Some, None, length, take, drop, ◌+◌, refl, sym, ◌∙◌, ap, subst, cond}
 use Rattle.std.proofs.lemmas.Bool.Decides.{eqb_tells}
+use Rattle.std.proofs.lemmas.Option.{same_Some}
 use Rattle.std.proofs.Math.Seq.{take-length, take-add}
 use Rattle.byte_system.specs.Disk.{Content, content_of, content, numbered, named, Disk, Locks, Writes, Truncates, Renames, Ends, step, Gives}
 use Rattle.byte_protocol.specs.InPlace.{Phase, Starts, HasLock, HasOut, HasSame, HasPart, HasPut, Stopped, Turn, LocksOut, FindsOut, ComparesOut, EmptiesOut, WritesOut, WritesOn, PutsOver, DoesOther, Quits, Task, checked_phase, leaves_from, leads_to, turn_call, locked_in, IsAside, IsReady, IsModest, Doing, phases, files_after, Proceeds, IsEmptied, IsEmptiedUnread, HasAsRead, IsPutOver, IsFilled, sample_task, sample_files, sample_doings, pair_task, pair_files, pair_doings}
@@ -38,14 +39,10 @@ suits_left t m d e l (HasPart x i n) f = (mine_left t m d e l i f.0, l.bytes i f
 suits_left t m d e l HasPut f = tt
 suits_left t m d e l Stopped f = tt
 
-abbrev or_zero : Option ℕ → ℕ
-or_zero None = 0
-or_zero (Some n) = n
-
 -- two processes do not both have OUT
 one_has : (t : Task) (d : Disk) (m k i n : ℕ) → m ≢ k → IsMine t m d i → IsMine t k d n → ⊥
 one_has t d m k i n ne a b =
-    let same : i ≡ n = ap or_zero (sym a.named ∙ b.named) in
+    let same : i ≡ n = same_Some i n (sym a.named ∙ b.named) in
     not_both (d.holder n) m k ne (subst (λ q. d.holder q ≡ Some m) same a.held) b.held
 
 same_left : (t : Task) (m : ℕ) (d : Disk) → LeavesTo t m d d
@@ -111,10 +108,6 @@ put_content t d k x p r =
     named_other (named d.names t.out (d.names p)) p None t.out (λ e. r.other (sym e)) ∙ named_at d.names t.out (d.names p) in
     ap (content_of d.bytes) led ∙ r.whole
 
-abbrev or_none : Option (List ℕ) → List ℕ
-or_none None = []
-or_none (Some x) = x
-
 -- what each turn leaves to the others
 others : (t : Task) (d : Disk) (k : ℕ) (m : Turn) → Suits t k d (leaves_from m) → IsModest t d k m → Gives d k (turn_call t k m) → (q : ℕ) → q ≢ k → LeavesTo t q d (step d k (turn_call t k m))
 others t d k (LocksOut i) f fair g q ne = locks_left t d k i q g ne
@@ -131,7 +124,7 @@ others t d k (Quits s) f fair g q ne = ends_left t d k q ne
 own_suits : (t : Task) (d : Disk) (k : ℕ) (m : Turn) → Suits t k d (leaves_from m) → IsModest t d k m → Gives d k (turn_call t k m) → Suits t k (step d k (turn_call t k m)) (leads_to m)
 own_suits t d k (LocksOut i) f fair g = numbered_at d.holder i (Some k)
 own_suits t d k (FindsOut i) f fair g = record { held = f; named = g }
-own_suits t d k (ComparesOut x i) f fair g = (f, ap or_none (sym (mine_content t k d i f) ∙ g))
+own_suits t d k (ComparesOut x i) f fair g = (f, same_Some (d.bytes i) x (sym (mine_content t k d i f) ∙ g))
 own_suits t d k (EmptiesOut x i) f fair g = let o = has_out t k d x i f in (record { held = o.held; named = o.named }, numbered_at d.bytes i [])
 own_suits t d k (WritesOut x i n) f fair g =
     let bs = take n (t.change k x) in

@@ -1,5 +1,6 @@
 -- One process alone replaces OUT.
-use Rattle.std.proofs.Common.{◌≡◌, inl, ℕ, [], ◌∷◌, Some, None, refl}
+use Rattle.std.proofs.Common.{◌≡◌, inl, [], ◌∷◌, Some, refl}
+use Rattle.std.proofs.lemmas.Option.{none-some}
 use Rattle.byte_system.specs.Disk.{Disk, no_files, Honest, content, after}
 use Rattle.byte_protocol.specs.Protocol.{Stage, IsElsewhere, Chains, AreFair, Follows, IsStart, events, sample_job, sample_deeds}
 use Rattle.byte_protocol.specs.Cuts.{AreSparing}
@@ -27,11 +28,8 @@ honest : Honest no_files (events sample_job sample_deeds)
 honest =
     (((((((((tt, (refl, record { nameless = λ p e. cc; free = refl; empty = refl; made = refl })), inl refl), refl), tt), tt), refl), refl), refl), tt)
 
-none_is_some : (i : ℕ) → None ≡ Some i → ⊥
-none_is_some i e = cc
-
 sparing : AreSparing sample_job no_files sample_deeds
-sparing = (((((((((tt, λ e. cc), tt), tt), tt), tt), tt), λ i e. absurd (none_is_some i e)), tt), λ i e. absurd (none_is_some i e))
+sparing = (((((((((tt, λ e. cc), tt), tt), tt), tt), tt), λ i e. absurd (none-some i e)), tt), λ i e. absurd (none-some i e))
 
 pub alone_is_done : IsStart sample_job no_files × Follows sample_job no_files sample_deeds × AreSparing sample_job no_files sample_deeds × (content (after no_files (events sample_job sample_deeds)) sample_job.out ≡ Some (7 ∷ []))
 alone_is_done = (start, record { chains = chains; fair = fair; honest = honest }, sparing, refl)

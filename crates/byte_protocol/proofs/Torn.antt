@@ -1,9 +1,10 @@
 -- What is left of OUT after a loss of power, if it is written in place.
-use Rattle.std.proofs.Common.{◌≡◌, inl, inr, ℕ, Bool, true, false, List, [], ◌∷◌, Option, Some, take, refl, sym, ◌∙◌, ap, cond}
+use Rattle.std.proofs.Common.{◌≡◌, inl, inr, ℕ, true, false, List, [], ◌∷◌, Option, Some, take, refl, sym, ◌∙◌, ap, cond}
+use Rattle.std.proofs.lemmas.Bool.{both_ways, eq-eqb}
 use Rattle.byte_system.specs.Disk.{Content, content_of, content, numbered, Disk, Event, Syncs, step, after}
 use Rattle.byte_protocol.specs.Cuts.{is_clean, MayLead, IsLeft}
 use Rattle.byte_protocol.specs.InPlace.{HasPart, Turn, LocksOut, FindsOut, ComparesOut, EmptiesOut, WritesOut, WritesOn, PutsOver, DoesOther, Quits, Task, turn_call, IsModest, Doing, files_after, Proceeds, happened, IsWithin, AreWithin}
-use Rattle.byte_protocol.proofs.Kept.{same_number, numbered_at, numbered_other}
+use Rattle.byte_protocol.proofs.Kept.{numbered_at, numbered_other}
 use Rattle.byte_protocol.proofs.Doings.{happened_files}
 use Rattle.byte_protocol.proofs.Proceeding.{has_out_at, part_stays}
 
@@ -49,11 +50,8 @@ pub written_left : (t : Task) (first : Disk) (earlier : List Doing) (k : ℕ) (x
 written_left t first earlier k x i n p w left l =
     let es = record { by = k; turn = DoesOther (HasPart x i n) (Syncs i) } ∷ earlier in
     let at : first.names t.out ≡ Some i = sym (leads_there t first earlier p.0 w.0) ∙ has_out_at t first earlier k x i n p.0 p.1 in
-    let clean : is_clean (happened t es) i ≡ true = ap (λ b. cond b true (is_clean (happened t earlier) i)) (same_number i) in
+    let clean : is_clean (happened t es) i ≡ true = ap (λ b. cond b true (is_clean (happened t earlier) i)) (eq-eqb i i refl) in
     synced_left t first es i p w at clean left l ∙ part_stays t first earlier k x i n p.0 p.1
-
-unclean : (b : Bool) → b ≡ true → b ≡ false → ⊥
-unclean b t f = cc
 
 -- the files that are left, if OUT has these bytes
 abbrev torn : Disk → ℕ → List ℕ → Disk
@@ -70,7 +68,7 @@ anything_left t first es i p w at unsynced bs =
       torn d i bs,
       record {
         leads = now_leads first (happened t es) t.out;
-        bytes = λ j clean. numbered_other d.bytes i bs j (λ e. unclean (is_clean (happened t es) i) (ap (is_clean (happened t es)) (sym e) ∙ clean) unsynced);
+        bytes = λ j clean. numbered_other d.bytes i bs j (λ e. both_ways (is_clean (happened t es) i) unsynced (ap (is_clean (happened t es)) (sym e) ∙ clean));
       },
       ap (content_of (numbered d.bytes i bs)) (happened_there t first es p w ∙ at) ∙ ap Some (numbered_at d.bytes i bs),
     )

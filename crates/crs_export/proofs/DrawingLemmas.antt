@@ -2,6 +2,7 @@
 use Rattle.std.proofs.Common.{◌≡◌, ℕ, ◌==◌, true, false, ◌&&◌, nat_le, List, [], ◌∷◌, ◌++◌, codes, refl, sym, ap, ◌∙◌, append_assoc, append-nil, subst, arith}
 use Rattle.std.proofs.lemmas.Bool.{and_parts}
 use Rattle.std.proofs.lemmas.Bool.Decides.{nat_tests}
+use Rattle.std.proofs.lemmas.List.Concat.{flat_map-append}
 use Rattle.std.specs.List.{flat_map}
 use Rattle.crs_export.specs.DotQuotes.{escaped, marked, unescaped}
 use Rattle.crs_export.specs.DotStatements.{Place, Between, Statement, InText, Part, Byte, Text, End, to, before, in_statement, ended, AreStatements, code}
@@ -20,15 +21,11 @@ takes_as {p = p} {q = q} {a = a} it ys e = subst (λ l. Takes p a l q) e it
 pub record TakesAll (bytes : List ℕ) (ss : List (List Part)) : Type 0 where
   pub is : Takes Between bytes (flat_map ended ss) Between
 
-ended_both : (ss ts : List (List Part)) → flat_map ended (ss ++ ts) ≡ flat_map ended ss ++ flat_map ended ts
-ended_both [] ts = refl
-ended_both (s ∷ ss) ts = ap (λ l. ended s ++ l) (ended_both ss ts) ∙ sym (append_assoc (ended s) (flat_map ended ss) (flat_map ended ts))
-
 pub all_none : TakesAll [] []
 all_none = record { is = record { read = refl; place = refl } }
 
 pub all_both : {a b : List ℕ} {ss ts : List (List Part)} → TakesAll a ss → TakesAll b ts → TakesAll (a ++ b) (ss ++ ts)
-all_both {ss = ss} {ts = ts} one other = record { is = takes_as (takes_both one.is other.is) (flat_map ended (ss ++ ts)) (sym (ended_both ss ts)) }
+all_both {ss = ss} {ts = ts} one other = record { is = takes_as (takes_both one.is other.is) (flat_map ended (ss ++ ts)) (sym (flat_map-append ended ss ts)) }
 
 all_one : {a : List ℕ} {ps : List Part} → Takes Between a ps Between → (s : List Part) → ps ≡ ended s → TakesAll a (s ∷ [])
 all_one it s e = record { is = takes_as it (flat_map ended (s ∷ [])) (e ∙ sym (append-nil (ended s))) }

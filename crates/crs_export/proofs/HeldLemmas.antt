@@ -3,6 +3,7 @@ use Rattle.std.proofs.Common.{◌≡◌, ℕ, Bool, true, false, ◌&&◌, cond,
 use Rattle.std.specs.Cmp.{IsTotalOrder, then_total, on_total, int_cmp_total, alike_right, Equal-is}
 use Rattle.std.specs.Cmp.Lexicographic.{nat_list_cmp_total, options_total}
 use Rattle.std.specs.Ordering.{is_eq}
+use Rattle.std.proofs.Math.Bool.{and-false}
 use Rattle.crs_export.specs.declared.filed.Filed.{Filed}
 use Rattle.crs_export.specs.Boxes.{value_of}
 use Rattle.crs_export.specs.Places.{PlaceBytes, place_of, place_cmp, is_same_place}
@@ -40,10 +41,6 @@ appended p (g ∷ gs) f = by (has_place p g) (appended p gs f)
     by true e = refl
     by false e = e
 
-and_no : (b : Bool) → (b && false) ≡ false
-and_no true = refl
-and_no false = refl
-
 elsewhere : (p : PlaceBytes) (fs : List Filed) (f : Filed) → has_place p f ≡ false → text_at p (fs ++ f ∷ []) ≡ text_at p fs
 elsewhere p fs f e = appended p fs f ∙ ap (λ b. or_else (text_at p fs) (cond b (Some f.keyed.text.now) None)) e ∙ or_none (text_at p fs)
 
@@ -57,7 +54,7 @@ taken p fs f t e = by (is_same_place (place_of f.keyed) p) refl
   where
     by : (b : Bool) → is_same_place (place_of f.keyed) p ≡ b → text_at p (fs ++ f ∷ []) ≡ text_at p fs
     by true same = appended p fs f ∙ or_some (text_at p fs) (text_at p (f ∷ [])) t (sym (same_text (place_of f.keyed) p same fs) ∙ e)
-    by false other = elsewhere p fs f (ap (λ b. fits f && b) other ∙ and_no (fits f))
+    by false other = elsewhere p fs f (ap (λ b. fits f && b) other ∙ and-false (fits f))
 
 -- an entry that fits, and whose place has no text yet, gives its text to its place and to no other
 pub given : (p : PlaceBytes) (fs : List Filed) (f : Filed) → fits f ≡ true → text_at (place_of f.keyed) fs ≡ None → with_text (place_of f.keyed) f.keyed.text.now (λ q. text_at q fs) p ≡ text_at p (fs ++ f ∷ [])
@@ -67,4 +64,4 @@ given p fs f e none = by (is_same_place (place_of f.keyed) p) refl
     by true same =
         ap (λ b. cond b (Some f.keyed.text.now) (text_at p fs)) same
         ∙ sym (appended p fs f ∙ ap (λ o. or_else o (text_at p (f ∷ []))) (sym (same_text (place_of f.keyed) p same fs) ∙ none) ∙ (λ j. cond (e j && same j) (Some f.keyed.text.now) None))
-    by false other = ap (λ b. cond b (Some f.keyed.text.now) (text_at p fs)) other ∙ sym (elsewhere p fs f (ap (λ b. fits f && b) other ∙ and_no (fits f)))
+    by false other = ap (λ b. cond b (Some f.keyed.text.now) (text_at p fs)) other ∙ sym (elsewhere p fs f (ap (λ b. fits f && b) other ∙ and-false (fits f)))

@@ -1,11 +1,11 @@
 -- `is_count` decides whether a text is a count, and a text spells at most one whole number.
 use Rattle.std.proofs.Common.{subst, ◌≡◌, ℕ, suc, ◌*◌, ◌/◌, ◌%◌, ◌^◌, ◌<◌, ◌≤◌, Bool, true, false, List, [], ◌++◌, length, decimal, ℤ, pos, negsuc, unsigned_abs, Option, Some, None, IfSome, Ok, Err, refl, sym, ap, ◌∙◌, inl, inr, arith, append-nil, mul-one}
-use Rattle.std.specs.Prelude.{nat_le, is_some}
+use Rattle.std.specs.Prelude.{is_some}
 use Rattle.std.specs.Str.Parse.{AllDigits, digits_value}
 use Rattle.std.proofs.Math.Nat.{mul-div_cancel, pow-le-pow_right}
+use Rattle.std.proofs.lemmas.Bool.{and_parts, and_from, leb-true, le-leb}
 use Rattle.std.proofs.lemmas.Int.{ints}
 use Rattle.std.proofs.lemmas.Int.Digits.{digits_value-lt}
-use Rattle.std.proofs.lemmas.Bool.Decides.{nat_tests}
 use Rattle.std.proofs.lemmas.Fmt.{decimal_is_IsNumeral, length-decimal-le}
 use Rattle.crs_number.specs.declared.decimals.Decimal.{Decimal}
 use Rattle.crs_number.specs.declared.decimals.NumberFault.{NumberFault}
@@ -14,15 +14,9 @@ use Rattle.crs_number.specs.Value.{IsWhole}
 use Rattle.crs_number.specs.Laws.{power_pos}
 use Rattle.crs_number.specs.Count.{SpellsWhole, IsCount, parts_in, is_count}
 use Rattle.crs_number.proofs.Values.{value_of_form}
-use Rattle.crs_number.proofs.CountTexts.{both, and_true, parts_from, parts_to}
+use Rattle.crs_number.proofs.CountTexts.{parts_from, parts_to}
 use Rattle.crs_number.proofs.Once.{spells_once}
 use Rattle.crs_number.proofs.CountValues.{whole_from_normal, count_at_from, count_at_to, normal_of_count}
-
-short_enough : (m n : ℕ) → nat_le m n ≡ true → m ≤ n
-short_enough m n h = grind (arith, nat_tests)
-
-passes_short : (m n : ℕ) → m ≤ n → nat_le m n ≡ true
-passes_short m n h = grind (arith, nat_tests)
 
 -- a text with these parts spells n if their value is n, n is below 2 ^ 32, and the text and its exponent are short enough
 spells_from : (text : List ℕ) (parts : Parts) → HasParts text parts → length text ≤ 100 → length parts.exponent ≤ 4 → (n : ℕ) → n < 2 ^ 32 → IsWhole (number_of parts) (exponent_of parts) (pos n) → SpellsWhole text n
@@ -44,13 +38,13 @@ spells_from text parts form short short_exponent n small whole =
 pub count_from : (text : List ℕ) → is_count text ≡ true → IsCount text
 unfolding is_count
 count_from text h =
-    let form = both _ _ h in
-    let short = both _ _ form.1 in
-    let value = both _ _ short.1 in
+    let form = and_parts _ _ h in
+    let short = and_parts _ _ form.1 in
+    let value = and_parts _ _ short.1 in
     let at = count_at_from (number_of (parts_in text)) (exponent_of (parts_in text)) value.1 in
     record {
       count = at.count;
-      spelled = spells_from text (parts_in text) (parts_from text form.0) (short_enough _ _ short.0) (short_enough _ _ value.0) at.count at.small at.whole;
+      spelled = spells_from text (parts_in text) (parts_from text form.0) (leb-true _ _ short.0) (leb-true _ _ value.0) at.count at.small at.whole;
       small = at.small;
     }
 
@@ -63,7 +57,7 @@ count_to text h =
     let parts = parts_in text in
     let value = value_of_form text parts h.spelled.coefficient h.spelled.exponent (parts_from text numeral) spells in
     let whole = whole_from_normal (number_of parts) (exponent_of parts) h.spelled.coefficient h.spelled.exponent h.count value.normal h.spelled.whole in
-    and_true _ _ numeral (and_true _ _ (passes_short _ _ spells.short) (and_true _ _ (passes_short _ _ value.short_exponent) (count_at_to _ _ h.count whole h.small)))
+    and_from _ _ numeral (and_from _ _ (le-leb _ _ spells.short) (and_from _ _ (le-leb _ _ value.short_exponent) (count_at_to _ _ h.count whole h.small)))
 
 -- ---- a text spells at most one whole number
 

@@ -1,20 +1,14 @@
 -- `is_numeral` decides whether a text has the form of a numeral, and `parts_in` finds the parts.
 use Rattle.std.proofs.Common.{◌≡◌, ℕ, ◌+◌, ◌-◌, ◌<◌, Bool, true, false, ◌&&◌, ◌||◌, ◌==◌, if◌then◌else◌, List, [], ◌∷◌, ◌++◌, length, take, drop, refl, ap, ◌∙◌, inl, inr, ◌⊎◌, ⊎_elim, arith, append-nil, subst}
 use Rattle.std.specs.Prelude.{nat_lt}
-use Rattle.std.proofs.lemmas.Bool.{cases_eq}
+use Rattle.std.proofs.lemmas.Bool.{cases_eq, and_parts, and_from, ltb-true, eqb-true}
 use Rattle.std.proofs.lemmas.Bool.Decides.{nat_tests}
 use Rattle.std.proofs.lemmas.Grind.{common_steps}
+use Rattle.std.proofs.lemmas.List.{nil_from_length}
 use Rattle.crs_number.specs.Numeral.{Parts, IsPower, HasParts}
 use Rattle.crs_number.specs.Reading.{is_sign_byte, is_period, CutsSign, CutsFraction}
 use Rattle.crs_number.specs.Count.{begins_with_minus, behind_sign, digits_in, behind_digits, fraction_in, behind_fraction, is_power, power_in, parts_in, is_numeral}
 use Rattle.crs_number.proofs.Cuts.{cuts_digits, front_once, power_refused}
-
-pub both : (a b : Bool) → a && b ≡ true → (a ≡ true) × (b ≡ true)
-both true b h = (refl, h)
-both false b h = absurd (cc)
-
-pub and_true : (a b : Bool) → a ≡ true → b ≡ true → a && b ≡ true
-and_true a b h k = rw (h, k) refl
 
 sign_of_byte : (c : ℕ) → is_sign_byte c ≡ true → ((c ≡ 43) × ((c == 45) ≡ false)) ⊎ ((c ≡ 45) × ((c == 45) ≡ true))
 sign_of_byte c h = ⊎_elim
@@ -50,32 +44,25 @@ letter_passes : (c : ℕ) → (c ≡ 69) ⊎ (c ≡ 101) → (c == 69 || c == 10
 letter_passes c (inl e) = rw e refl
 letter_passes c (inr e) = rw e refl
 
-none_left : (text : List ℕ) → (length text == 0) ≡ true → text ≡ []
-none_left [] h = refl
-none_left (c ∷ text) h = absurd (grind (arith, nat_tests))
-
-some_digits : (n : ℕ) → nat_lt 0 n ≡ true → 0 < n
-some_digits n h = grind (arith, nat_tests)
-
 passes_some : (a b m n : ℕ) → a ≡ m → b ≡ n → 0 < m + n → nat_lt 0 (a + b) ≡ true
 passes_some a b m n e f h = grind (arith, nat_tests)
 
 ends_there : (digits rest text : List ℕ) → text ≡ digits ++ rest → (length rest == 0) ≡ true → text ≡ digits
-ends_there digits rest text e h = e ∙ (ap (λ t. digits ++ t) (none_left rest h) ∙ append-nil digits)
+ends_there digits rest text e h = e ∙ (ap (λ t. digits ++ t) (nil_from_length rest (eqb-true (length rest) 0 h)) ∙ append-nil digits)
 
 power_from : (text : List ℕ) → is_power text ≡ true → IsPower text (begins_with_minus (drop 1 text)) (digits_in (behind_sign (drop 1 text)))
 power_from [] h = (refl, refl)
 power_from (c ∷ text) h =
     let unsigned = behind_sign text in
-    let letter = both _ _ h in
-    let number = both _ _ letter.1 in
+    let letter = and_parts _ _ h in
+    let number = and_parts _ _ letter.1 in
     let s = cuts_sign text in
     let w = cuts_digits unsigned in (
       letter_is c letter.0,
       record {
         sign = s.sign;
         is_sign = s.is_sign;
-        is_digits = (some_digits _ number.0, w.is_digits);
+        is_digits = (ltb-true 0 _ number.0, w.is_digits);
         is_text = s.is_text ∙ ap (λ t. s.sign ++ t) (ends_there (digits_in unsigned) (behind_digits unsigned) unsigned w.is_text number.1);
       },
     )
@@ -90,7 +77,7 @@ power_to (c ∷ text) negative digits h =
     let all : text ≡ take (length (c ∷ text) - 1) text = grind (arith, common_steps) in
     let cut : CutsSign (take (length (c ∷ text) - 1) text) (begins_with_minus text) unsigned = subst (λ (t : List ℕ). CutsSign t (begins_with_minus text) unsigned) all (cuts_sign text) in
     let refused = λ (bad : (length (digits_in unsigned) ≡ 0) ⊎ (0 < length (behind_digits unsigned))). power_refused (c ∷ text) _ unsigned _ _ (omega arith) cut (cuts_digits unsigned) bad negative digits h in
-    and_true _ _ (letter_passes c h.0) (number_passes (length (digits_in unsigned)) (length (behind_digits unsigned)) (λ none. refused (inl none)) (λ more. refused (inr more)))
+    and_from _ _ (letter_passes c h.0) (number_passes (length (digits_in unsigned)) (length (behind_digits unsigned)) (λ none. refused (inl none)) (λ more. refused (inr more)))
 
 -- a text that passes `is_numeral` has the parts that `parts_in` computes
 pub parts_from : (text : List ℕ) → is_numeral text ≡ true → HasParts text (parts_in text)
@@ -98,7 +85,7 @@ unfolding is_numeral parts_in
 parts_from text h =
     let unsigned = behind_sign text in
     let behind = behind_digits unsigned in
-    let tests = both _ _ h in
+    let tests = and_parts _ _ h in
     let s = cuts_sign text in
     let w = cuts_digits unsigned in
     let f = cuts_fraction behind in
@@ -110,7 +97,7 @@ parts_from text h =
       is_whole = w.is_digits;
       is_point = f.is_point;
       is_power = power_from (power_in text) tests.0;
-      has_digits = some_digits _ tests.1;
+      has_digits = ltb-true 0 _ tests.1;
       is_text = s.is_text ∙ ap (λ t. s.sign ++ t) (w.is_text ∙ ap (λ t. digits_in unsigned ++ t) f.is_text);
     }
 
@@ -121,6 +108,6 @@ parts_to text parts form =
     let unsigned = behind_sign text in
     let behind = behind_digits unsigned in
     let front = front_once text _ unsigned _ behind _ _ (cuts_sign text) (cuts_digits unsigned) (cuts_fraction behind) parts form in
-    and_true _ _
+    and_from _ _
     (rw front.rest_is (power_to form.power parts.exponent_negative parts.exponent form.is_power))
     (passes_some _ _ _ _ (ap length front.whole_is) (ap length front.fraction_is) form.has_digits)

@@ -4,14 +4,13 @@ use Rattle.std.specs.Prelude.{nat_lt}
 use Rattle.std.proofs.Math.Nat.{mul-pos, mul-mod_left, mul-div_cancel, div-add-mod', pow-succ', one-le-pow, mul-le-mul_left}
 use Rattle.std.proofs.lemmas.Int.{ints}
 use Rattle.std.proofs.lemmas.Nat.{pow-add}
-use Rattle.std.proofs.lemmas.Bool.{cases_eq}
+use Rattle.std.proofs.lemmas.Bool.{cases_eq, and_parts, and_from, ltb-true, eq-eqb}
 use Rattle.std.proofs.lemmas.Bool.Decides.{nat_tests}
 use Rattle.crs_number.specs.Numeral.{IsNormalForm, IsInRange}
 use Rattle.crs_number.specs.Value.{IsWhole}
 use Rattle.crs_number.specs.ByValue.{no_count}
 use Rattle.crs_number.specs.Laws.{power_pos, tens, ends_in_zero}
 use Rattle.crs_number.specs.Count.{is_count_at}
-use Rattle.crs_number.proofs.CountTexts.{both, and_true}
 
 -- c times ten to the e is n, where neither c nor e is negative
 pub record Scaled (c e : ℤ) (n : ℕ) : Type 0 where
@@ -59,24 +58,18 @@ pub record CountAt (z x : ℤ) : Type 0 where
   pub whole : IsWhole z x (pos count)
   pub small : count < 2 ^ 32
 
-below : (n : ℕ) → nat_lt n (2 ^ 32) ≡ true → n < 2 ^ 32
-below n h = grind (arith, nat_tests)
-
 divides : (n p : ℕ) → n % p == 0 ≡ true → n ≡ n / p * p
 divides n p h = let none : n % p ≡ 0 = grind (arith, nat_tests) in omega (arith, div-add-mod' n p)
 
 pub count_at_from : (z x : ℤ) → is_count_at z x ≡ true → CountAt z x
-count_at_from (pos n) (pos k) h = record { count = n * 10 ^ k; whole = refl; small = below (n * 10 ^ k) h }
+count_at_from (pos n) (pos k) h = record { count = n * 10 ^ k; whole = refl; small = ltb-true (n * 10 ^ k) (2 ^ 32) h }
 count_at_from (pos n) (negsuc k) h =
-    let tests = both _ _ h in
-    record { count = n / 10 ^ suc k; whole = ap pos (divides n (10 ^ suc k) tests.0); small = below (n / 10 ^ suc k) tests.1 }
+    let tests = and_parts _ _ h in
+    record { count = n / 10 ^ suc k; whole = ap pos (divides n (10 ^ suc k) tests.0); small = ltb-true (n / 10 ^ suc k) (2 ^ 32) tests.1 }
 count_at_from (negsuc n) x h = absurd (cc)
 
 passes_below : (m n : ℕ) → m ≡ n → n < 2 ^ 32 → nat_lt m (2 ^ 32) ≡ true
 passes_below m n e h = grind (arith, nat_tests)
-
-passes_zero : (n : ℕ) → n ≡ 0 → n == 0 ≡ true
-passes_zero n e = grind (arith, nat_tests)
 
 not_negative : (m k n : ℕ) → IsWhole (negsuc m) (pos k) (pos n) → ⊥
 not_negative m k n h = let s = mul-pos {m = suc m} {n = 10 ^ k} (omega arith) (power_pos k) in omega (arith, ints, h, s)
@@ -86,7 +79,7 @@ count_at_to (pos m) (pos k) n h small = passes_below (m * 10 ^ k) n (omega (arit
 count_at_to (pos m) (negsuc k) n h small =
     let p = 10 ^ suc k in
     let e : m ≡ n * p = omega (arith, ints, h) in
-    and_true _ _ (passes_zero (m % p) (ap (λ x. x % p) e ∙ mul-mod_left n p)) (passes_below (m / p) n (ap (λ x. x / p) e ∙ mul-div_cancel n (power_pos (suc k))) small)
+    and_from _ _ (eq-eqb (m % p) 0 (ap (λ x. x % p) e ∙ mul-mod_left n p)) (passes_below (m / p) n (ap (λ x. x / p) e ∙ mul-div_cancel n (power_pos (suc k))) small)
 count_at_to (negsuc m) (pos k) n h small = absurd (not_negative m k n h)
 count_at_to (negsuc m) (negsuc k) n h small = absurd (omega (arith, ints, h))
 

@@ -1,9 +1,9 @@
 -- Numbers of few digits.
-use Rattle.std.proofs.Common.{◌≡◌, ℕ, ◌+◌, ◌*◌, ◌/◌, ◌%◌, ◌^◌, ◌<◌, ◌≤◌, List, [], ◌∷◌, ◌++◌, length, length-append, sym, ap, ◌∙◌, subst, arith, mul_assoc, mul_comm}
+use Rattle.std.proofs.Common.{◌≡◌, ℕ, ◌+◌, ◌*◌, ◌/◌, ◌%◌, ◌^◌, ◌<◌, ◌≤◌, List, ◌++◌, length, length-append, sym, ap, ◌∙◌, subst, arith, mul_assoc, mul_comm}
 use Rattle.std.specs.Str.Parse.{AllDigits, digits_value, digits_value_after}
 use Rattle.std.proofs.lemmas.Int.Digits.{digits_value-lt}
 use Rattle.std.proofs.Math.Nat.{pow-le-pow_right}
-use Rattle.crs_number.proofs.Powers.{ten_more, power_grows, value_append}
+use Rattle.crs_number.proofs.Powers.{ten_more, power_grows, value_append, digits_append}
 
 -- a number from 1 to 10 ^ 18 - 1 ends in fewer than 18 zeros
 few_zeros : (c z n : ℕ) → 0 < c → c * 10 ^ z ≡ n → n < 10 ^ 18 → 18 ≤ z → ⊥
@@ -25,16 +25,12 @@ stripped c z n some last is small zeros =
       number = ten_more q z ∙ (mul_assoc q (10 ^ z) 10 ∙ (ap (λ x. q * x) (mul_comm (10 ^ z) 10) ∙ (sym (mul_assoc q 10 (10 ^ z)) ∙ (ap (λ x. x * 10 ^ z) whole ∙ is))));
     }
 
-pub digits_both : (xs ys : List ℕ) → AllDigits 10 xs → AllDigits 10 ys → AllDigits 10 (xs ++ ys)
-digits_both [] ys a b = b
-digits_both (x ∷ xs) ys a b = (a.0, digits_both xs ys a.1 b)
-
 pub few_alone : (xs : List ℕ) → AllDigits 10 xs → length xs ≤ 18 → digits_value_after 10 0 xs < 10 ^ 18
 few_alone xs a h = omega (arith, digits_value-lt 10 xs a, pow-le-pow_right {n = 10} (omega arith) {i = length xs} {j = 18} h)
 
 pub few_both : (xs ys : List ℕ) → AllDigits 10 xs → AllDigits 10 ys → length xs + length ys ≤ 18 → digits_value_after 10 (digits_value_after 10 0 xs) ys < 10 ^ 18
 few_both xs ys a b h =
-    subst (λ n. n < 10 ^ 18) (value_append 0 xs ys) (few_alone (xs ++ ys) (digits_both xs ys a b) (omega (arith, h, length-append xs ys)))
+    subst (λ n. n < 10 ^ 18) (value_append 0 xs ys) (few_alone (xs ++ ys) (digits_append xs ys a b) (omega (arith, h, length-append xs ys)))
 
 -- reading xs and then ys gives the value of xs followed by ys
 pub both_is : (m n : ℕ) (xs ys : List ℕ) → m ≡ digits_value_after 10 0 xs → n ≡ digits_value_after 10 m ys → n ≡ digits_value 10 (xs ++ ys)

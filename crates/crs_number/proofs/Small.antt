@@ -9,6 +9,7 @@ use Rattle.std.proofs.lemmas.Int.Digits.{digits_value-lt}
 use Rattle.crs_number.specs.declared.decimals.Decimal.{Decimal}
 use Rattle.crs_number.specs.Laws.{power_pos, tens, abs_signed}
 use Rattle.crs_number.specs.Numeral.{Parts, IsFraction, HasParts, Spells, IsNormalForm, signed, number_of}
+use Rattle.crs_number.proofs.Powers.{digits_append}
 use Rattle.crs_number.proofs.Normal.{normal_found}
 
 -- n is `size`, which is not a multiple of ten, followed by at most `limit` zeros
@@ -81,10 +82,6 @@ digits_of : (text digits : List ℕ) → IsFraction text digits → AllDigits 10
 digits_of [] digits h = subst (λ l. AllDigits 10 l) (sym h) tt
 digits_of (c ∷ text) digits h = h.2
 
-digits_both : (xs ys : List ℕ) → AllDigits 10 xs → AllDigits 10 ys → AllDigits 10 (xs ++ ys)
-digits_both [] ys p q = q
-digits_both (c ∷ xs) ys p q = (p.0, digits_both xs ys p.1 q)
-
 no_power : (negative : Bool) (digits : List ℕ) (k : ℕ) → digits ≡ [] → signed negative (digits_value 10 digits) -ℤ pos k ≡ pos 0 -ℤ pos k
 no_power false digits k e = ap (λ l. pos (digits_value 10 l) -ℤ pos k) e
 no_power true digits k e = ap (λ l. signed true (digits_value 10 l) -ℤ pos k) e
@@ -92,7 +89,7 @@ no_power true digits k e = ap (λ l. signed true (digits_value 10 l) -ℤ pos k)
 pub small_spells : (text : List ℕ) (parts : Parts) → HasParts text parts → length parts.whole + length parts.fraction ≤ 34 → parts.exponent ≡ [] → length text ≤ 100 → (d : Decimal) × Spells text d.coefficient d.exponent
 small_spells text parts h few none short =
     let digits = parts.whole ++ parts.fraction in
-    let all = digits_both parts.whole parts.fraction h.is_whole (digits_of h.point parts.fraction h.is_point) in
+    let all = digits_append parts.whole parts.fraction h.is_whole (digits_of h.point parts.fraction h.is_point) in
     let shorter : length digits ≤ 34 = omega (arith, length-append parts.whole parts.fraction, few) in
     let least : 10 ^ length digits ≤ 10 ^ 34 = pow-le-pow_right (omega arith) shorter in
     let below : digits_value 10 digits < 10 ^ 34 = omega (arith, digits_value-lt 10 digits all, least) in

@@ -1,11 +1,12 @@
 -- No character of a cell is hidden.
-use Rattle.std.proofs.Common.{◌≡◌, ℕ, zero, suc, ◌-◌, Bool, true, false, not, ◌||◌, nat_lt, List, [], ◌∷◌, ◌++◌, length, take, IsUtf8, refl, ap, ◌∙◌, subst, arith}
+use Rattle.std.proofs.Common.{◌≡◌, ℕ, zero, suc, ◌-◌, Bool, true, false, not, nat_lt, List, [], ◌∷◌, ◌++◌, length, take, IsUtf8, refl, ap, ◌∙◌, subst, arith}
 use Rattle.std.specs.List.{list_all}
 use Rattle.std.specs.Str.{chars}
 use Rattle.std.specs.Str.Lossy.{utf8_lossy}
 use Rattle.std.proofs.lemmas.List.Folds.{list_all-append}
 use Rattle.std.proofs.lemmas.Str.{IsUtf8-nil, IsUtf8-append, IsUtf8-encode, scalars-chars, chars-append, chars-nil, encode_ascii}
 use Rattle.std.proofs.lemmas.Bool.{and_parts, and_from}
+use Rattle.std.proofs.Math.Bool.{or-not_self}
 use lib.Utf8.{scalar, scalars, encode}
 use Rattle.text_hidden.specs.Set.{is_hidden}
 use Rattle.text_hidden.specs.Marks.{Marks, hides_nothing, shown_all}
@@ -66,12 +67,8 @@ scalars_take zero cs e = refl
 scalars_take (suc n) [] e = refl
 scalars_take (suc n) (c ∷ cs) e = let each = and_parts (scalar c) (scalars cs) e in and_from (scalar c) (scalars (take n cs)) each.0 (scalars_take n cs each.1)
 
-either : (h : Bool) → (h || not h) ≡ true
-either true = refl
-either false = refl
-
 each_is_marked : Marks (λ c. is_hidden c) (λ c. false)
-each_is_marked c = either (is_hidden c)
+each_is_marked c = or-not_self (is_hidden c)
 
 characters : (cs : List ℕ) → scalars cs ≡ true → Clear (shown_all (λ c. is_hidden c) cs)
 characters cs e = record { utf8 = shown_utf8 (λ c. is_hidden c) cs e; none = none_hidden (λ c. is_hidden c) (λ c. false) cs each_is_marked e }

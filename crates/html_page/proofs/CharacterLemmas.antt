@@ -3,7 +3,9 @@ use Rattle.std.proofs.Common.{◌≡◌, ℕ, ◌-◌, ◌==◌, nat_lt, Bool, t
 use Rattle.std.specs.List.{list_all}
 use Rattle.std.specs.Char.{encode_utf8, len_utf8}
 use Rattle.std.specs.Str.{chars}
+use Rattle.std.proofs.lemmas.Bool.{and_parts}
 use Rattle.std.proofs.lemmas.Bool.Decides.{nat_tests}
+use Rattle.std.proofs.lemmas.List.{drop_at}
 use Rattle.std.proofs.lemmas.Str.{encodes-chars, scalars-chars}
 use lib.Utf8.{encodes}
 use Rattle.text_hidden.specs.Set.{is_hidden}
@@ -29,21 +31,13 @@ continued_at feeds b rest e =
     let low : nat_lt b 192 ≡ true = grind (arith, nat_tests) in
     rw (feed, high, low) refl
 
-parts : (a b : Bool) → (a && b) ≡ true → (a ≡ true) × (b ≡ true)
-parts true b e = (refl, e)
-parts false b e = cc
-
 continued : (feeds : Feeds) (bs rest : List ℕ) → list_all continues bs ≡ true → marked feeds (bs ++ rest) ≡ bs ++ marked feeds rest
 continued feeds [] rest e = refl
 continued feeds (b ∷ bs) rest e =
-    let each = parts (continues b) (list_all continues bs) e in
+    let each = and_parts (continues b) (list_all continues bs) e in
     ap (λ h. shown b h ++ marked_after feeds (more_of h) (bs ++ rest)) (continued_at feeds b (bs ++ rest) each.0) ∙ ap (λ l. b ∷ l) (continued feeds bs rest each.1)
 
 -- ---- one character
-
-drop_past : (xs ys : List ℕ) → drop (length xs) (xs ++ ys) ≡ ys
-drop_past [] ys = refl
-drop_past (x ∷ xs) ys = drop_past xs ys
 
 by_cases : (feeds : Feeds) (c lead n : ℕ) (others rest : List ℕ) (kept hidden : Bool) → length others ≡ n → list_all continues others ≡ true
     → shown lead (if kept then None else (if hidden then Some (record { number = c; more = n }) else None))
@@ -53,7 +47,7 @@ by_cases feeds c lead n others rest true true l e = ap (λ t. lead ∷ t) (conti
 by_cases feeds c lead n others rest true false l e = ap (λ t. lead ∷ t) (continued feeds others rest e)
 by_cases feeds c lead n others rest false false l e = ap (λ t. lead ∷ t) (continued feeds others rest e)
 by_cases feeds c lead n others rest false true l e =
-    ap (λ t. mark c ++ t) (skip feeds n (others ++ rest) ∙ ap (λ m. marked feeds (drop m (others ++ rest))) (sym l) ∙ ap (marked feeds) (drop_past others rest))
+    ap (λ t. mark c ++ t) (skip feeds n (others ++ rest) ∙ ap (λ m. marked feeds (drop m (others ++ rest))) (sym l) ∙ ap (marked feeds) (drop_at others rest (length others) refl))
 
 at_lead : (feeds : Feeds) (c lead : ℕ) (tail : List ℕ) (n : ℕ) → (lead == 10) ≡ (c == 10) → hidden_at lead tail ≡ hidden_if c n
     → marked_at feeds lead tail ≡ (if is_kept feeds c then None else (if is_hidden c then Some (record { number = c; more = n }) else None))

@@ -1,5 +1,6 @@
 -- Tags of a page and of its pieces.
-use Rattle.std.proofs.Common.{◌≡◌, ℕ, ◌==◌, Bool, true, false, not, ◌&&◌, ◌||◌, List, [], ◌∷◌, ◌++◌, map, Some, None, is_some, length, nat_lt, if◌then◌else◌, refl, sym, ap, ◌∙◌, append_assoc}
+use Rattle.std.proofs.Common.{◌≡◌, ℕ, ◌==◌, Bool, true, false, not, ◌||◌, List, [], ◌∷◌, ◌++◌, map, Some, None, is_some, length, nat_lt, if◌then◌else◌, refl, sym, ap, ◌∙◌, append_assoc}
+use Rattle.std.proofs.lemmas.Bool.{and_parts, or_left, or_right}
 use Rattle.std.proofs.lemmas.Bool.Decides.{Decides-eqb}
 use Rattle.html_page.specs.Escaped.{escaped, reference, is_inert}
 use Rattle.html_page.specs.Pieces.{Piece, Markup, Text, Lines, Short, Attribute, Numeral, bytes_of, html, blank}
@@ -23,10 +24,6 @@ pub record Stays (p : Context) (xs : List ℕ) : Type 0 where
   pub place : after p xs ≡ p
   pub no_tag : tags_from p xs ≡ []
 
-both : (a b : Bool) → (a && b) ≡ true → (a ≡ true) × (b ≡ true)
-both true b e = (refl, e)
-both false b e = cc
-
 neither : (u v w x : Bool) → not (u || (v || (w || x))) ≡ true → (u ≡ false) × (w ≡ false)
 neither true v w x e = cc
 neither false true w x e = cc
@@ -41,7 +38,7 @@ inert_here b rest false t e = neither _ _ _ _ e
 in_content : (xs : List ℕ) → is_inert xs ≡ true → Stays Content xs
 in_content [] e = record { place = refl; no_tag = refl }
 in_content (b ∷ bs) e =
-    let each = both _ _ e in
+    let each = and_parts _ _ e in
     let here = inert_here b bs _ refl each.0 in
     let rest = in_content bs each.1 in
     record { place = rw here.0 rest.place; no_tag = rw here.0 rest.no_tag }
@@ -49,18 +46,10 @@ in_content (b ∷ bs) e =
 in_quotes : (a xs : List ℕ) → (may_hold a || may_draw a) ≡ true → is_inert xs ≡ true → Stays (Quoted a) xs
 in_quotes a [] h e = record { place = refl; no_tag = refl }
 in_quotes a (b ∷ bs) h e =
-    let each = both _ _ e in
+    let each = and_parts _ _ e in
     let here = inert_here b bs _ refl each.0 in
     let rest = in_quotes a bs h each.1 in
     record { place = rw (here.1, h) rest.place; no_tag = rw (here.1, h) rest.no_tag }
-
-or-left : (u v : Bool) → u ≡ true → (u || v) ≡ true
-or-left true v e = refl
-or-left false v e = cc
-
-or-right : (u v : Bool) → v ≡ true → (u || v) ≡ true
-or-right true v e = refl
-or-right false v e = e
 
 -- the piece leads from one context to another, with its text and without it, and its tags are the same
 record Passes (here there : Context) (p : Piece) : Type 0 where
@@ -102,14 +91,14 @@ numeral_passes : (a text : List ℕ) (there : Context) (h : Bool) → may_draw a
 unfolding bytes_of
 numeral_passes a text there false h e = cc
 numeral_passes a text there true h e =
-    let stays = in_quotes a (escaped (marked Marked text)) (or-right (may_hold a) (may_draw a) h) (inert (marked Marked text)) in
+    let stays = in_quotes a (escaped (marked Marked text)) (or_right (may_hold a) (may_draw a) h) (inert (marked Marked text)) in
     record { place = stays.place ∙ cc; blank_place = cc; tags = stays.no_tag }
 
 attribute_passes : (a text : List ℕ) (there : Context) (h : Bool) → may_hold a ≡ h → (if h then Some (Quoted a) else None) ≡ Some there → Passes (Quoted a) there (Attribute text)
 unfolding bytes_of
 attribute_passes a text there false h e = cc
 attribute_passes a text there true h e =
-    let stays = in_quotes a (escaped (marked Marked text)) (or-left (may_hold a) (may_draw a) h) (inert (marked Marked text)) in
+    let stays = in_quotes a (escaped (marked Marked text)) (or_left (may_hold a) (may_draw a) h) (inert (marked Marked text)) in
     record { place = stays.place ∙ cc; blank_place = cc; tags = stays.no_tag }
 
 piece_passes : (here there : Context) (p : Piece) → past here p ≡ Some there → Passes here there p

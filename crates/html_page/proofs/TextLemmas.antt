@@ -1,8 +1,9 @@
 -- The texts of a page, part by part.
-use Rattle.std.proofs.Common.{◌≡◌, ◌==◌, ℕ, Bool, true, false, if◌then◌else◌, List, [], ◌∷◌, ◌++◌, length, map, refl, sym, ap₂, ◌∙◌, append-nil, arith}
+use Rattle.std.proofs.Common.{◌≡◌, ◌==◌, ℕ, Bool, true, false, if◌then◌else◌, List, [], ◌∷◌, ◌++◌, length, map, refl, sym, ap₂, ◌∙◌, append-nil}
 use Rattle.std.specs.List.{flat_map}
 use Rattle.std.proofs.lemmas.Bool.{eqb-true}
 use Rattle.std.proofs.lemmas.Grind.{flat_map-append}
+use Rattle.std.proofs.lemmas.List.{nil_from_length}
 use Rattle.html_page.specs.Pieces.{Piece, Markup}
 use Rattle.html_page.specs.Shown.{Link, Entered, Awaited, Event, SupersededBy, RetiredBy, Box, Entry, Word, Side, Pair, Conflict, Shown}
 use Rattle.html_page.specs.declared.markup.TheConstants.{AFTER_FIGURES, PAIR, AFTER_PAIR, AFTER_SIDE, CONFLICTS_START, CONFLICTS_END, AWAITED_START, AWAITED_END, GAPS_START, GAPS_END, ENTRIES_START, MAP, SUPERSEDED_BY, AFTER_HISTORY, BY, AFTER_BY, AFTER_ENTRY, ENTRIES_END, RETIRED_START, RETIRED_END}
@@ -42,12 +43,8 @@ section_at : {T : Type 0} (b : Bool) (start finish : List ℕ) (item : T → Lis
 section_at true start finish item xs ts none items = record { is = sym (none refl) }
 section_at false start finish item xs ts none items = ended (both (has (Markup start ∷ []) [] refl) items) (has (Markup finish ∷ []) [] refl)
 
-without : {T : Type 0} (xs : List T) → (length xs == 0) ≡ true → xs ≡ []
-without [] e = refl
-without (x ∷ xs) e = absurd (omega (arith, eqb-true (length (x ∷ xs)) 0 e))
-
 section_has : {T : Type 0} (start finish : List ℕ) (item : T → List Piece) (g : T → List (List ℕ)) → ((x : T) → Has (item x) (g x)) → (xs : List T) → Has (section start item finish xs) (flat_map g xs)
-section_has start finish item g each xs = section_at (length xs == 0) start finish item xs (flat_map g xs) (λ e j. flat_map g (without xs e j)) (each_has item g each xs)
+section_has start finish item g each xs = section_at (length xs == 0) start finish item xs (flat_map g xs) (λ e j. flat_map g (nil_from_length xs (eqb-true (length xs) 0 e) j)) (each_has item g each xs)
 
 section_none : {T : Type 0} (start finish : List ℕ) (item : T → List Piece) → ((x : T) → Has (item x) []) → (xs : List T) → Has (section start item finish xs) []
 section_none start finish item each xs = section_at (length xs == 0) start finish item xs [] (λ e. refl) (each_none item each xs)

@@ -1,5 +1,5 @@
 -- The texts of rows, gathered one row after another.
-use Rattle.std.proofs.Common.{◌≡◌, ◌↔◌, ◌+◌, ℕ, nat_eq, nat_lt, Bool, true, false, not, ◌&&◌, ◌||◌, cond, IsTrue, List, [], ◌∷◌, ◌++◌, refl, sym, ap, ◌∙◌, subst, inl, inr, arith}
+use Rattle.std.proofs.Common.{◌≡◌, ◌↔◌, ◌+◌, ℕ, nat_eq, nat_lt, Bool, true, false, not, ◌&&◌, ◌||◌, cond, IsTrue, List, [], ◌∷◌, ◌++◌, refl, sym, ap, ◌∙◌, subst, inl, inr, arith, add-zero}
 use Rattle.std.proofs.lemmas.Bool.{ltb-true, lt-ltb}
 use Rattle.std.proofs.lemmas.Bool.Decides.{nat_tests}
 use Rattle.std.proofs.lemmas.List.Sums.{sum_by_push}
@@ -26,16 +26,13 @@ several_more false n m h = grind (arith, nat_tests, h)
 count_more : (t : List ℕ) (rs : List Row) (r : Row) → count_by (stands_with t) (rs ++ r ∷ []) ≡ count_by (stands_with t) rs + cond (stands_with t r) 1 0
 count_more t rs r = sum_by_push (λ (q : Row). cond (stands_with t q) 1 0) rs r
 
-none_more : (n : ℕ) → n + 0 ≡ n
-none_more n = omega arith
-
 -- ---- one more row
 
 module _ (rs : List Row) (r : Row) where
   same_count : is_retired r.status ≡ true → (t : List ℕ) → count_by (stands_with t) (rs ++ r ∷ []) ≡ count_by (stands_with t) rs
   same_count gone t =
       let off : stands_with t r ≡ false = ap (λ b. not b && pointwise nat_eq r.definition t) gone in
-      count_more t rs r ∙ ap (λ b. count_by (stands_with t) rs + cond b 1 0) off ∙ none_more (count_by (stands_with t) rs)
+      count_more t rs r ∙ ap (λ b. count_by (stands_with t) rs + cond b 1 0) off ∙ add-zero (count_by (stands_with t) rs)
 
   next_count : is_retired r.status ≡ false → (t : List ℕ) → count_by (stands_with t) (rs ++ r ∷ []) ≡ count_by (stands_with t) rs + cond (is_text r.definition t) 1 0
   next_count stands t = count_more t rs r ∙ ap (λ b. count_by (stands_with t) rs + cond b 1 0) (ap (λ b. not b && pointwise nat_eq r.definition t) stands ∙ texts_ties r.definition t)

@@ -1,11 +1,12 @@
 -- Reading gives at most one value, at most one fault, and not both.
-use Rattle.std.proofs.Common.{◌≡◌, ℕ, ◌<◌, List, [], ◌∷◌, length, Option, Some, None, Result, Ok, Err, refl, sym, ap, subst, ◌∙◌, arith, ◌⊎◌, inl, inr}
+use Rattle.std.proofs.Common.{◌≡◌, ℕ, ◌<◌, List, [], ◌∷◌, length, Option, None, Result, Ok, Err, refl, sym, ap, subst, ◌∙◌, arith, ◌⊎◌, inl, inr}
 use Rattle.reg_op.specs.Ids.{Id, Ids}
 use Rattle.reg_op.specs.Operations.{Op, op_cmp, IsBody}
 use Rattle.reg_op.specs.Set as set
 use Rattle.reg_state.specs.Runs.{seen_of}
 use Rattle.reg_op.specs.Kept.{first_dropped}
 use Rattle.std.specs.Int.{w32}
+use Rattle.std.proofs.lemmas.Option.{same_Some, none-some}
 use Rattle.reg_op.specs.declared.operation.OpBody.{OpBody as Body}
 use Rattle.reg_op.specs.declared.operation.OpBody.TheVariants.{Enter, Supersede, Retire}
 use Rattle.reg_file.specs.declared.fault.Refused.{Refused}
@@ -163,20 +164,14 @@ operation_exact version seen last =
       one_fault = is.one_fault;
     }
 
-some_none : {X : Type 0} (x : X) → ◌≡◌ {A = Option X} (Some x) None → ⊥
-some_none x e = cc
-
-some_is : {X : Type 0} (x y : X) → ◌≡◌ {A = Option X} (Some x) (Some y) → x ≡ y
-some_is x y e = cc
-
 ending_fault : (version : ℕ) (os : List Op) (bytes : List ℕ) (q r : Refused) → IsDropped os (places_of version os bytes) q ⊎ IsTrailing os bytes q → IsDropped os (places_of version os bytes) r ⊎ IsTrailing os bytes r → q ≡ r
-ending_fault version os bytes q r (inl f) (inl g) = f.2 ∙ ap (λ i. record { fault = fault.NotKept; left = left_in (places_of version os bytes) i }) (some_is f.0 g.0 (sym f.1 ∙ g.1)) ∙ sym g.2
-ending_fault version os bytes q r (inl f) (inr g) = absurd (some_none f.0 (sym f.1 ∙ g.0))
-ending_fault version os bytes q r (inr f) (inl g) = absurd (some_none g.0 (sym g.1 ∙ f.0))
+ending_fault version os bytes q r (inl f) (inl g) = f.2 ∙ ap (λ i. record { fault = fault.NotKept; left = left_in (places_of version os bytes) i }) (same_Some f.0 g.0 (sym f.1 ∙ g.1)) ∙ sym g.2
+ending_fault version os bytes q r (inl f) (inr g) = absurd (none-some f.0 (sym g.0 ∙ f.1))
+ending_fault version os bytes q r (inr f) (inl g) = absurd (none-some g.0 (sym f.0 ∙ g.1))
 ending_fault version os bytes q r (inr f) (inr g) = f.2 ∙ sym g.2
 
 ending_none : (version : ℕ) (os : List Op) (bytes : List ℕ) (r : Refused) → first_dropped (set.from_list {R = op_cmp} os) ≡ None → bytes ≡ [] → IsDropped os (places_of version os bytes) r ⊎ IsTrailing os bytes r → ⊥
-ending_none version os bytes r h e (inl f) = some_none f.0 (sym f.1 ∙ h)
+ending_none version os bytes r h e (inl f) = none-some f.0 (sym h ∙ f.1)
 ending_none version os bytes r h e (inr f) = let l = ap length e in omega (arith, f.1, l)
 
 pub ending_exact : (version : ℕ) (os : List Op) → IsExact (ending version os)

@@ -2,7 +2,7 @@
 use Rattle.std.proofs.Common.{◌≡◌, ℕ, suc, ◌+◌, ◌^◌, ◌<◌, ◌≤◌, ◌||◌, Bool, true, false, cond, eqb, ltb, List, [], ◌∷◌, ◌++◌, length, get_or, take, drop, Option, Result, Ok, Err, refl, sym, ap, subst, ◌∙◌, append_assoc, arith, inl, inr}
 use Rattle.std.specs.Prelude.{All}
 use Rattle.std.specs.Int.{Width, w32, byte_len, from_be_bytes, to_be_bytes}
-use Rattle.std.proofs.lemmas.Bool.{cases_lt, ltb-false, le-ltb, eqb-true, or_parts}
+use Rattle.std.proofs.lemmas.Bool.{cases_lt, ltb-false, le-ltb, eqb-true, or_parts, eq-eqb}
 use Rattle.std.proofs.lemmas.List.{take_at, drop_at, take-append-drop, length-append, length-take, get_or-drop, get_or-take, get_or_past}
 use Rattle.std.proofs.lemmas.Grind.{get_or_default_zero}
 use Rattle.std.proofs.lemmas.Nat.{be_bytes_4, from_be_bytes-to_be_bytes_4}
@@ -155,12 +155,9 @@ head_takes version kind bytes x fits e =
     let magic : Takes bytes (four 0x43525352) a.0.1 = subst (λ (m : ℕ). Takes bytes (four m) a.0.1) (eqb-true _ _ g.0) first.0 in
     Takes-then bytes (four 0x43525352) a.0.1 (version ∷ kind ∷ []) x.1 magic (version_takes version kind a.0.1 x magic.rest_fits g.1)
 
-eqb_itself : (n : ℕ) → eqb n n ≡ true
-eqb_itself n = grind arith
-
 pub head_again : (version kind : ℕ) (rest : List ℕ) → head_at version kind (head version kind ++ rest) ≡ Ok (tt, rest)
 unfolding head_at
-head_again version kind rest = rw (number_again 0x43525352 (version ∷ kind ∷ rest) (omega arith), eqb_itself version, eqb_itself kind) refl
+head_again version kind rest = rw (number_again 0x43525352 (version ∷ kind ∷ rest) (omega arith), eq-eqb version version refl, eq-eqb kind kind refl) refl
 
 -- ---- ranges
 
@@ -224,7 +221,7 @@ pub record IsHeading (last : Option (List ℕ)) (replica : List ℕ) (count : �
 positive : (n : ℕ) → eqb n 0 ≡ false → 0 < n
 positive n e = grind arith
 
-not_zero : (n : ℕ) → 0 < n → eqb n 0 ≡ false
+pub not_zero : (n : ℕ) → 0 < n → eqb n 0 ≡ false
 not_zero n e = grind arith
 
 pub group_takes : (last : Option (List ℕ)) (bytes replica : List ℕ) (count : ℕ) (rest : List ℕ) → IsBytes bytes → group_at last bytes ≡ Ok ((replica, count), rest)

@@ -1,5 +1,5 @@
 -- A list of operations or of runs has no more elements than its bytes in a file.
-use Rattle.std.proofs.Common.{◌≡◌, ℕ, ◌+◌, ◌≤◌, Bool, true, false, List, [], ◌∷◌, ◌++◌, length, map, refl, ap, arith}
+use Rattle.std.proofs.Common.{◌≡◌, ℕ, ◌+◌, ◌≤◌, Bool, true, false, List, [], ◌∷◌, ◌++◌, length, map, refl, ap, arith, ◌<◌, ◌^◌}
 use Rattle.std.proofs.lemmas.List.{length-append, length-map}
 use Rattle.std.proofs.lemmas.List.Concat.{flat_map-cons}
 use Rattle.std.specs.List.{flat_map}
@@ -8,6 +8,7 @@ use Rattle.reg_op.specs.Operations.{Op}
 use Rattle.reg_state.specs.declared.run.Run.{Run}
 use Rattle.reg_state.specs.Runs.{replica_cmp}
 use Rattle.reg_file.specs.Layout.{four, op_bytes, ops_bytes, Group, group_bytes, span_bytes, ranges_bytes, runs_of, run_at, put, grouped}
+use Rattle.reg_file.specs.Files.{most}
 use Rattle.reg_file.proofs.GroupLemmas.{put_same, put_other, runs_grouped}
 
 flat_long : {A : Type 0} (f : A → List ℕ) → ((x : A) → 1 ≤ length (f x)) → (xs : List A) → length xs ≤ length (flat_map f xs)
@@ -72,3 +73,10 @@ grouped_long (r ∷ rs) =
     let one = put_long r (grouped rs) in
     let rest = grouped_long rs in
     omega arith
+
+-- a file whose size is told is not too large, and has few parts
+pub within_most : (n size : ℕ) → size ≡ n → size ≤ 67108864 → n ≤ most
+within_most n size e h = omega arith
+
+pub few_parts : (k n size : ℕ) → size ≡ n → size ≤ 67108864 → k ≤ n → k < 2 ^ 32
+few_parts k n size e h le = omega arith

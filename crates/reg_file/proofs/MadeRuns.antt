@@ -1,7 +1,8 @@
 -- Each set of valid ids has runs.
 use Rattle.std.proofs.Common.{◌≡◌, ℕ, ◌+◌, ◌<◌, ◌≤◌, Bool, true, false, ◌&&◌, ◌||◌, cond, eqb, leb, List, [], ◌∷◌, refl, sym, ap, subst, ◌∙◌, arith, ◌⊎◌, inl, inr}
-use Rattle.std.proofs.lemmas.Bool.{true≢false, or_left}
+use Rattle.std.proofs.lemmas.Bool.{true≢false, or_left, or_right, cond-true, cond-false, eqb-true}
 use Rattle.std.proofs.lemmas.Bool.Decides.{nat_tests}
+use Rattle.std.proofs.Math.Bool.{or_assoc}
 use Rattle.std.specs.List.{list_any}
 use Rattle.std.specs.Ordering.{nat_cmp, is_lt, is_eq, eq_by_cmp, ordering_then}
 use Rattle.std.specs.declared.cmp.Ordering.{Ordering}
@@ -52,12 +53,6 @@ abbrev BeginsAt : Id → List Run → Type 0
 BeginsAt i [] = ⊥
 BeginsAt i (r ∷ rs) = (r.replica ≡ i.replica) × (r.low ≡ i.count)
 
-cond_true : {A : Type 0} (b : Bool) (x y : A) → b ≡ true → cond b x y ≡ x
-cond_true b x y e = rw e refl
-
-cond_false : {A : Type 0} (b : Bool) (x y : A) → b ≡ false → cond b x y ≡ y
-cond_false b x y e = rw e refl
-
 begins : (i : Id) (rs : List Run) → BeginsAt i (begin i rs)
 begins i [] = (refl, refl)
 begins i (r ∷ rs) = elim (touches i r) as (λ b. BeginsAt i (cond b (grown i r ∷ rs) (run_of i ∷ r ∷ rs))) [ true ↦ (refl, refl) | false ↦ (refl, refl) ]
@@ -65,11 +60,8 @@ begins i (r ∷ rs) = elim (touches i r) as (λ b. BeginsAt i (cond b (grown i r
 touching : (i : Id) (r : Run) → touches i r ≡ true → (i.replica ≡ r.replica) × (i.count + 1 ≡ r.low)
 touching i r h = from (is_eq (replica_cmp i.replica r.replica)) (eqb (i.count + 1) r.low) refl refl h
   where
-    same : (a b : ℕ) → eqb a b ≡ true → a ≡ b
-    same a b e = grind (arith, nat_tests)
-
     from : (a b : Bool) → is_eq (replica_cmp i.replica r.replica) ≡ a → eqb (i.count + 1) r.low ≡ b → (a && b) ≡ true → (i.replica ≡ r.replica) × (i.count + 1 ≡ r.low)
-    from true true e f h = (same_replica i.replica r.replica e, same _ _ f)
+    from true true e f h = (same_replica i.replica r.replica e, eqb-true _ _ f)
     from true false e f h = absurd (true≢false (sym h))
     from false b e f h = absurd (true≢false (sym h))
 
@@ -104,9 +96,9 @@ begin_runs i j (r ∷ rs) some s at are = from (touches i r) refl
     from true h =
         let t = touching i r h in
         let low : r.low ≤ r.high = is.1 in
-        subst AreRuns (sym (cond_true (touches i r) (grown i r ∷ rs) (run_of i ∷ r ∷ rs) h)) (replaced (grown i r) r rs are (some, (let k : i.count + 1 ≡ r.low = t.1 in omega arith)) t.0 refl)
+        subst AreRuns (sym (cond-true (touches i r) (grown i r ∷ rs) (run_of i ∷ r ∷ rs) h)) (replaced (grown i r) r rs are (some, (let k : i.count + 1 ≡ r.low = t.1 in omega arith)) t.0 refl)
     from false h =
-        subst AreRuns (sym (cond_false (touches i r) (grown i r ∷ rs) (run_of i ∷ r ∷ rs) h)) ((some, omega arith), apart s, are)
+        subst AreRuns (sym (cond-false (touches i r) (grown i r ∷ rs) (run_of i ∷ r ∷ rs) h)) ((some, omega arith), apart s, are)
       where
         apart : IsSooner i j → IsApart (run_of i) r
         apart (inl a) = inl (subst (λ q. IsBelow i.replica q) (sym at.0) a)
@@ -117,11 +109,7 @@ runs_are [] up each = tt
 runs_are (i ∷ []) up each = let k : 1 ≤ i.count = (each i (or_left _ _ (ap is_eq (tied_itself id_total i)))).positive in (k, omega arith)
 runs_are (i ∷ j ∷ is) up each =
     begin_runs i j (runs_from (j ∷ is)) (each i (or_left _ _ (ap is_eq (tied_itself id_total i)))).positive (sooner i j up.0.0) (begins j (runs_from is))
-    (runs_are (j ∷ is) up.1 (λ k h. each k (right (eq_by_cmp id_cmp k i) _ h)))
-  where
-    right : (a b : Bool) → b ≡ true → (a || b) ≡ true
-    right true b h = refl
-    right false b h = h
+    (runs_are (j ∷ is) up.1 (λ k h. each k (or_right (eq_by_cmp id_cmp k i) _ h)))
 
 -- ---- the ids of the runs
 
@@ -148,30 +136,22 @@ in_grown k i r h low =
     from true y c l h e f = at_true y c l h e f
     from false y c l h e f = refl
 
-or_assoc : (a b c : Bool) → ((a || b) || c) ≡ (a || (b || c))
-or_assoc true b c = refl
-or_assoc false b c = refl
-
 in_begun : (k i : Id) (rs : List Run) → AreRuns rs → is_in_runs k (begin i rs) ≡ (eq_by_cmp id_cmp k i || is_in_runs k rs)
 in_begun k i [] are = ap (λ b. b || false) (in_one k i)
 in_begun k i (r ∷ rs) are = from (touches i r) refl
   where
     from : (b : Bool) → touches i r ≡ b → is_in_runs k (begin i (r ∷ rs)) ≡ (eq_by_cmp id_cmp k i || (is_in_run k r || is_in_runs k rs))
     from true h =
-        ap (is_in_runs k) (cond_true (touches i r) (grown i r ∷ rs) (run_of i ∷ r ∷ rs) h)
+        ap (is_in_runs k) (cond-true (touches i r) (grown i r ∷ rs) (run_of i ∷ r ∷ rs) h)
         ∙ ap (λ b. b || is_in_runs k rs) (in_grown k i r h (head_run r rs are).1 ∙ ap (λ b. b || is_in_run k r) (in_one k i))
         ∙ or_assoc (eq_by_cmp id_cmp k i) (is_in_run k r) (is_in_runs k rs)
-    from false h = ap (is_in_runs k) (cond_false (touches i r) (grown i r ∷ rs) (run_of i ∷ r ∷ rs) h) ∙ ap (λ b. b || (is_in_run k r || is_in_runs k rs)) (in_one k i)
+    from false h = ap (is_in_runs k) (cond-false (touches i r) (grown i r ∷ rs) (run_of i ∷ r ∷ rs) h) ∙ ap (λ b. b || (is_in_run k r || is_in_runs k rs)) (in_one k i)
 
 in_made : (k : Id) (is : List Id) → Climbs id_cmp is → ((i : Id) → list_any (eq_by_cmp id_cmp i) is ≡ true → IsId i) → is_in_runs k (runs_from is) ≡ list_any (eq_by_cmp id_cmp k) is
 in_made k [] up each = refl
 in_made k (i ∷ is) up each =
-    let each' : (j : Id) → list_any (eq_by_cmp id_cmp j) is ≡ true → IsId j = λ j h. each j (right (eq_by_cmp id_cmp j i) _ h) in
+    let each' : (j : Id) → list_any (eq_by_cmp id_cmp j) is ≡ true → IsId j = λ j h. each j (or_right (eq_by_cmp id_cmp j i) _ h) in
     in_begun k i (runs_from is) (runs_are is up.1 each') ∙ ap (λ b. eq_by_cmp id_cmp k i || b) (in_made k is up.1 each')
-  where
-    right : (a b : Bool) → b ≡ true → (a || b) ≡ true
-    right true b h = refl
-    right false b h = h
 
 -- runs that have exactly the ids of a set
 pub runs_of_ids : (s : Ids) → ((i : Id) → set.contains s i ≡ true → IsId i) → (rs : List Run) × AreRuns rs × (seen_of rs ≡ s)

@@ -1,6 +1,7 @@
 -- The least id of an operation with a note.
-use Rattle.std.proofs.Common.{◌≡◌, ◌≢◌, ◌↔◌, Bool, true, false, not, cond, eqb, List, [], ◌∷◌, length, Option, Some, None, refl, sym, ap, ◌∙◌, subst}
+use Rattle.std.proofs.Common.{◌≡◌, ◌≢◌, ◌↔◌, Bool, true, false, not, cond, eqb, List, [], ◌∷◌, length, Some, None, refl, sym, ap, ◌∙◌, subst}
 use Rattle.std.proofs.lemmas.Bool.{true≢false}
+use Rattle.std.proofs.lemmas.Option.{same_Some, none-some}
 use Rattle.std.specs.List.{list_any, find}
 use Rattle.std.specs.Option.{option_map}
 use Rattle.reg_op.specs.Set as set
@@ -44,17 +45,11 @@ some_noted s o h some = any_of is_noted (set.items s) o (sym (contains-items s o
 none_of : (s : Ops) → list_any is_noted (set.items s) ≡ false → first_noted s ≡ None
 none_of s h = as_find (set.items s) ∙ ap (option_map (λ (o : Op). o.id)) (find_none is_noted (set.items s) h)
 
-some_same : (i j : Id) → ◌≡◌ {A = Option Id} (Some i) (Some j) → i ≡ j
-some_same i j h = cc
-
-none_some : (i : Id) → ◌≡◌ {A = Option Id} None (Some i) → ⊥
-none_some i h = cc
-
 pub noted_least : (s : Ops) (i : Id) → (first_noted s ≡ Some i) ↔ IsLeastNoted s i
 noted_least s i = (
   λ h. elim (list_any is_noted (set.items s)) as (λ b. list_any is_noted (set.items s) ≡ b → IsLeastNoted s i) [
-    | true ↦ λ e. let r = noted_found s e in subst (IsLeastNoted s) (some_same r.0 i (sym r.1 ∙ h)) r.2
-    | false ↦ λ e. absurd (none_some i (sym (none_of s e) ∙ h))
+    | true ↦ λ e. let r = noted_found s e in subst (IsLeastNoted s) (same_Some r.0 i (sym r.1 ∙ h)) r.2
+    | false ↦ λ e. absurd (none-some i (sym (none_of s e) ∙ h))
   ] refl,
   λ l.
       let r = noted_found s (some_noted s l.one l.there l.noted) in

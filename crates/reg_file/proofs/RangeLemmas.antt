@@ -1,7 +1,7 @@
 -- Ranges that are read in sequence, and the ids that they add to a set.
 use Rattle.std.proofs.Common.{◌≡◌, ℕ, ◌+◌, ◌<◌, ◌≤◌, true, List, [], ◌∷◌, ◌++◌, map, Option, Some, None, Ok, refl, sym, ap, subst, ◌∙◌, append_assoc, arith, inl, inr}
 use Rattle.std.proofs.lemmas.Bool.{or_cases, true≢false}
-use Rattle.std.proofs.lemmas.List.{append-nil, length_push}
+use Rattle.std.proofs.lemmas.List.{append-nil, length_push, map-append}
 use mathlib.Core.Bool.{or-false}
 use Rattle.reg_op.specs.Set as set
 use Rattle.reg_op.specs.Ids.{Id, Ids, id_cmp}
@@ -24,10 +24,6 @@ use Rattle.reg_file.proofs.Sequences.{each-push, state-push}
 pub with_runs-append : (s : Ids) (xs ys : List Run) → with_runs s (xs ++ ys) ≡ with_runs (with_runs s xs) ys
 with_runs-append s [] ys = refl
 with_runs-append s (x ∷ xs) ys = with_runs-append (set.union s (set.from_list (ids_of_run x))) xs ys
-
-map-push : (replica : List ℕ) (xs : List Span) (x : Span) → map (run_at replica) (xs ++ x ∷ []) ≡ map (run_at replica) xs ++ run_at replica x ∷ []
-map-push replica [] x = refl
-map-push replica (y ∷ xs) x = ap (λ rs. run_at replica y ∷ rs) (map-push replica xs x)
 
 pub runs_of-push : (gs : List Group) (g : Group) → runs_of (gs ++ g ∷ []) ≡ runs_of gs ++ map (run_at g.replica) g.spans
 runs_of-push [] g = append-nil (map (run_at g.replica) g.spans)
@@ -64,7 +60,7 @@ step_spans basis old now new replica bytes rest floor n s after i e added =
       all = i.all ++ s ∷ [];
       reads = each-push (span basis replica) floor_after 1 bytes i.all rest s after i.reads (subst (λ f. span_at basis replica f rest ≡ Ok (s, after)) i.floor_is e);
       floor_is = sym (state-push (span basis replica) floor_after 1 i.all s);
-      adds = added ∙ ap (λ t. set.union t (set.from_list (ids_of_run run))) i.adds ∙ sym (ap (with_runs old) (map-push replica i.all s) ∙ with_runs-append old (map (run_at replica) i.all) (run ∷ []));
+      adds = added ∙ ap (λ t. set.union t (set.from_list (ids_of_run run))) i.adds ∙ sym (ap (with_runs old) (map-append (run_at replica) i.all (s ∷ [])) ∙ with_runs-append old (map (run_at replica) i.all) (run ∷ []));
       counted = length_push i.all s ∙ ap (λ k. k + 1) i.counted;
       under = subst (λ t. IsUnder t replica (s.high + 2)) (sym added) (under_more now run floor i.under o.above o.ordered);
       positive = omega arith;

@@ -1,7 +1,8 @@
 -- What an office file has after a command.
-use Rattle.std.proofs.Common.{◌≡◌, ◌⊎◌, ℕ, ◌+◌, ◌-◌, ◌<◌, ◌≤◌, ◌^◌, max, Bool, true, ◌&&◌, List, Option, Some, None, Result, Ok, Err, sym, ap, ◌∙◌, subst, inl, inr, arith}
-use Rattle.std.proofs.lemmas.Bool.{or_cases, or_left, or_right, and_parts, ltb-true}
+use Rattle.std.proofs.Common.{◌≡◌, ℕ, ◌+◌, ◌-◌, ◌<◌, ◌≤◌, ◌^◌, max, Bool, true, ◌&&◌, List, Some, Ok, Err, sym, ap, ◌∙◌, subst, inl, inr, arith}
+use Rattle.std.proofs.lemmas.Bool.{or_cases, or_left, or_right, and_parts, ltb-true, cases_lt}
 use Rattle.std.proofs.Math.Bool.{and_comm}
+use Rattle.std.proofs.lemmas.Option.{none-some}
 use Rattle.std.specs.Cmp.{both_ways}
 use Rattle.std.specs.List.{filter}
 use Rattle.reg_op.specs.Set as set
@@ -24,6 +25,7 @@ use Rattle.reg_office.proofs.NumberLemmas.{count-greatest}
 use Rattle.reg_journal.specs.Journal.{Journal, numbers, IsOffice}
 use Rattle.reg_journal.specs.Adding.{is_new, new_ops, new_in}
 use Rattle.reg_journal.proofs.NumbersLemmas.{IsNumber, ids_are_run, run_in, in_run_of, numbers_in, in_numbers, of_own, made_number}
+use Rattle.reg_journal.proofs.JoiningLemmas.{ok_not_err, same_ok}
 
 set_of_filter : (t : Op → Bool) (os : List Op) → set.from_list {R = op_cmp} (filter t os) ≡ set.retain (set.from_list os) t
 set_of_filter t os = same_set op_total op_exact _ _ (λ q.
@@ -99,10 +101,7 @@ module _ (f : Journal) (y : Content) (is : IsContent y) (os : List Op) (all : Li
   none_dropped id h =
       let within : (o : Op) → contains (set.from_list {R = op_cmp} os) o ≡ true → contains y.ops o ≡ true = λ o k. (has_new o (sym (contains-from_list op_total os o) ∙ k)).0 in
       let kept = kept_part y.ops (set.from_list {R = op_cmp} os) is.is_kept within in
-      none_some (sym ((dropped_none (set.from_list {R = op_cmp} os)).1 kept) ∙ h)
-    where
-      none_some : {i : Id} → ◌≡◌ {A = Option Id} None (Some i) → ⊥
-      none_some k = cc
+      none-some id (sym ((dropped_none (set.from_list {R = op_cmp} os)).1 kept) ∙ h)
 
 -- ---- joining it
 
@@ -135,9 +134,6 @@ module _ (f : Journal) (y z : Content) (office : IsOffice f) (content : IsConten
 
   pub no_new_clash : (id : Id) → joined f.made z ≡ Err id → ⊥
   no_new_clash id h = ok_not_err (sym new_joins ∙ h)
-    where
-      ok_not_err : {x : Content} {i : Id} → ◌≡◌ {A = Result Content Id} (Ok x) (Err i) → ⊥
-      ok_not_err k = cc
 
   -- together they have seen the numbers up to the greatest one
   all_numbers : (g : ℕ) → g ≡ greatest f.replica y.seen → union f.made.seen z.seen ≡ numbers f.replica (max f.last g)
@@ -165,13 +161,10 @@ module _ (f : Journal) (y z : Content) (office : IsOffice f) (content : IsConten
           let low = n.low in
           let high = n.high in
           contains-union id_total f.made.seen z.seen i
-          ∙ elim (below (i.count) f.last) [
-            | inl a ↦ or_left (contains f.made.seen i) _ (subst (λ s. contains s i ≡ true) (sym office.seen) (in_numbers f.replica f.last i (record { own = n.own; low = low; high = a })))
-            | inr b ↦ or_right (contains f.made.seen i) _ (subst (λ s. contains s i ≡ true) (sym z_seen) (above_numbered f g i (record { own = n.own; low = omega (arith, b); high = omega (arith, b, high) })))
+          ∙ elim (cases_lt f.last i.count) [
+            | inl b ↦ or_right (contains f.made.seen i) _ (subst (λ s. contains s i ≡ true) (sym z_seen) (above_numbered f g i (record { own = n.own; low = omega (arith, b); high = omega (arith, b, high) })))
+            | inr a ↦ or_left (contains f.made.seen i) _ (subst (λ s. contains s i ≡ true) (sym office.seen) (in_numbers f.replica f.last i (record { own = n.own; low = low; high = a })))
           ]
-        where
-          below : (a b : ℕ) → (a ≤ b) ⊎ (b < a)
-          below a b = grind arith
 
   -- the office file with them
   pub new_office : (g last : ℕ) (made : Content) → g ≡ greatest f.replica y.seen → last ≡ max f.last g → last < 2 ^ 32 → joined f.made z ≡ Ok made
@@ -187,6 +180,3 @@ module _ (f : Journal) (y z : Content) (office : IsOffice f) (content : IsConten
         content = subst IsContent is (merged_is_content f.made z office.content new new_agree);
         seen = sym (ap (λ (x : Content). x.seen) is) ∙ all_numbers g eg ∙ ap (numbers f.replica) (sym el);
       }
-    where
-      same_ok : {a b : Content} → ◌≡◌ {A = Result Content Id} (Ok a) (Ok b) → a ≡ b
-      same_ok h = cc

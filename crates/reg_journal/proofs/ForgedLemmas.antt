@@ -5,7 +5,7 @@ use Rattle.std.specs.List.{list_any}
 use Rattle.std.specs.Cmp.{both_ways, tied_itself, Equal-is}
 use Rattle.std.specs.Ordering.{is_eq, eq_by_cmp}
 use Rattle.std.proofs.lemmas.List.Folds.{list_any_at}
-use Rattle.std.proofs.Math.Bool.{and-or_distrib_left}
+use Rattle.std.proofs.Math.Bool.{and-or_distrib_left, or_assoc}
 use Rattle.reg_op.specs.Set as set
 use Rattle.reg_op.specs.Set.{contains, contains-items}
 use Rattle.reg_op.specs.Ids.{Id, is_before, is_same}
@@ -30,10 +30,6 @@ use Rattle.reg_report.proofs.EntryLemmas.{is_after_first}
 
 -- ---- tests of several parts
 
-pub shared : (a b c : Bool) → ((a && b) || (a && c)) ≡ (a && (b || c))
-shared true b c = refl
-shared false b c = refl
-
 pub shared_inside : (a b c d : Bool) → ((a && (b && c)) || (a && (b && d))) ≡ (a && (b && (c || (d || false))))
 shared_inside false b c d = refl
 shared_inside true false c d = refl
@@ -46,10 +42,6 @@ one_inside false b c = refl
 one_inside true false c = refl
 one_inside true true true = refl
 one_inside true true false = refl
-
-or_assoc : (a b c : Bool) → (a || (b || c)) ≡ ((a || b) || c)
-or_assoc true b c = refl
-or_assoc false b c = refl
 
 -- ---- an id that an effect names
 
@@ -98,7 +90,7 @@ misuses_not f o h = false_from_ne_true _ (λ k.
 -- an operation tells of the ids that its effect names, and of its own
 pub told_two : (f : Journal) (o : Op) (b : Body) (s : Option Id) → b ≡ o.body → Leasts (λ i. names_any f b i || misuses f o i) s → Leasts (λ i. is_own f.replica i && tells_forged f i o) s
 told_two f o b s e h = leasts_same (λ i. names_any f b i || misuses f o i) (λ i. is_own f.replica i && tells_forged f i o)
-    (λ i. (λ k. names_any f (e k) i || misuses f o i) ∙ shared (is_own f.replica i) (nat_lt f.last i.count && list_any (is_same i) (named_in o.body)) (is_same i o.id && not (is_known f.made.ops o))) s h
+    (λ i. (λ k. names_any f (e k) i || misuses f o i) ∙ sym (and-or_distrib_left (is_own f.replica i) (nat_lt f.last i.count && list_any (is_same i) (named_in o.body)) (is_same i o.id && not (is_known f.made.ops o)))) s h
 
 -- ---- operations by id
 
@@ -235,7 +227,7 @@ told_more f ops rest more o t e so_far i =
     so_far i
     ∙ (λ k. t i || is_told f (e k) i)
     ∙ ap (λ b. t i || b) (and-or_distrib_left (is_own f.replica i) (tells_forged f i o) (list_any (tells_forged f i) more))
-    ∙ or_assoc (t i) (is_own f.replica i && tells_forged f i o) (is_told f more i)
+    ∙ sym (or_assoc (t i) (is_own f.replica i && tells_forged f i o) (is_told f more i))
 
 -- ---- a whole register
 
@@ -243,7 +235,7 @@ pub forged_whole : (f : Journal) (x : Content) (runs : List Run) (ops : List Op)
     → Leasts (λ i. is_above f.replica f.last runs i || is_told f ops i) r → Leasts (is_forged f x) r
 forged_whole f x runs ops r seen all h = leasts_same (λ i. is_above f.replica f.last runs i || is_told f ops i) (is_forged f x)
     (λ i.
-    shared (is_own f.replica i) (nat_lt f.last i.count && is_in_runs i runs) (list_any (tells_forged f i) ops)
+    sym (and-or_distrib_left (is_own f.replica i) (nat_lt f.last i.count && is_in_runs i runs) (list_any (tells_forged f i) ops))
     ∙ (λ k. is_own f.replica i && ((nat_lt f.last i.count && (sym (contains-seen_of runs i) ∙ ap (λ s. contains s i) seen) k) || list_any (tells_forged f i) (all k)))) r h
 
 -- a new id is the least one

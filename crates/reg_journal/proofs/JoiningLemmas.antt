@@ -51,8 +51,11 @@ honest_agrees f x is content honest p o h k same =
 pub honest_joins : (f : Journal) (x : Content) → IsOffice f → IsContent x → IsHonest f x → joined x f.made ≡ Ok (merged x f.made)
 honest_joins f x is content honest = joined_content x f.made (honest_agrees f x is content honest)
 
+pub same_ok : {x y : Content} → ◌≡◌ {A = Result Content Id} (Ok x) (Ok y) → x ≡ y
+same_ok h = cc
+
+pub ok_not_err : {y : Content} {i : Id} → ◌≡◌ {A = Result Content Id} (Ok y) (Err i) → ⊥
+ok_not_err h = cc
+
 pub no_clash : (f : Journal) (x : Content) (id : Id) → IsOffice f → IsContent x → IsHonest f x → joined x f.made ≡ Err id → ⊥
 no_clash f x id is content honest e = ok_not_err (sym (honest_joins f x is content honest) ∙ e)
-  where
-    ok_not_err : {y : Content} {i : Id} → ◌≡◌ {A = Result Content Id} (Ok y) (Err i) → ⊥
-    ok_not_err h = cc

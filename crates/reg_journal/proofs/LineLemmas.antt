@@ -1,5 +1,5 @@
 -- Lines with numbers, and the head of an office file.
-use Rattle.std.proofs.Common.{◌≡◌, ℕ, ◌+◌, ◌<◌, ◌≤◌, ◌^◌, true, cond, List, [], ◌∷◌, ◌++◌, length, take, drop, Option, Some, refl, sym, ap, ◌∙◌, inl, arith, length-append}
+use Rattle.std.proofs.Common.{◌≡◌, ℕ, ◌+◌, ◌<◌, ◌≤◌, ◌^◌, true, cond, List, [], ◌∷◌, ◌++◌, length, take, drop, Some, refl, sym, ap, ◌∙◌, inl, arith, length-append}
 use Rattle.std.proofs.lemmas.Bool.Decides.{nat_tests}
 use Rattle.std.specs.Fmt.{decimal}
 use Rattle.std.specs.List.{prefix_len}
@@ -8,6 +8,7 @@ use Rattle.std.specs.Str.Parse.{AllDigits}
 use Rattle.std.proofs.lemmas.Str.Parse.{digit_from_value}
 use Rattle.std.proofs.lemmas.List.{take_at, drop_at, append_assoc}
 use Rattle.std.proofs.lemmas.Fmt.{decimal_injective, decimal_is_IsNumeral}
+use Rattle.std.proofs.lemmas.Option.{same_Some}
 use Rattle.uuid.specs.Text.{hyphenated_text, lower, parsed}
 use Rattle.uuid.proofs.RoundTrips.{parses_hyphenated}
 use Rattle.uuid.proofs.TextLemmas.{by_index_length}
@@ -89,11 +90,8 @@ head_long text h rest e =
 pub replica_is : (h : Head) → IsHead h → parsed (hyphenated_text lower h.replica) ≡ Some h.replica
 replica_is h is = sym (parses_hyphenated lower h.replica (inl refl) is.long is.bytes)
 
-pub some_same : (a b : List ℕ) → ◌≡◌ {A = Option (List ℕ)} (Some a) (Some b) → a ≡ b
-some_same a b h = cc
-
 pub same_uuid : (g h : Head) → IsHead g → IsHead h → hyphenated_text lower g.replica ≡ hyphenated_text lower h.replica → g.replica ≡ h.replica
-same_uuid g h ig ih e = some_same g.replica h.replica (sym (replica_is g ig) ∙ ap parsed e ∙ replica_is h ih)
+same_uuid g h ig ih e = same_Some g.replica h.replica (sym (replica_is g ig) ∙ ap parsed e ∙ replica_is h ih)
 
 -- a text has one head
 pub same_head : (g h : Head) (a b : List ℕ) → IsHead g → IsHead h → head_text g ++ a ≡ head_text h ++ b → (g ≡ h) × (a ≡ b)

@@ -1,6 +1,6 @@
 -- The operations that a command makes on a register joined with the office file, and what is new in the register that it leaves.
-use Rattle.std.proofs.Common.{◌≡◌, ◌⊎◌, ℕ, ◌+◌, ◌-◌, ◌<◌, ◌≤◌, max, Bool, true, false, not, cond, ◌&&◌, ◌||◌, List, [], ◌∷◌, map, length, Option, Some, None, Result, Ok, refl, sym, ap, ◌∙◌, subst, inl, inr, arith, nat_lt}
-use Rattle.std.proofs.lemmas.Bool.{true≢false, or_cases, or_left, or_right, and_from, and_parts, lt-ltb, ltb-true}
+use Rattle.std.proofs.Common.{◌≡◌, ◌⊎◌, ℕ, ◌+◌, ◌-◌, ◌<◌, ◌≤◌, max, Bool, true, false, not, cond, ◌&&◌, ◌||◌, List, [], ◌∷◌, map, length, Option, Some, None, Ok, refl, sym, ap, ◌∙◌, subst, inl, inr, arith, nat_lt, eq-zero-or-pos}
+use Rattle.std.proofs.lemmas.Bool.{true≢false, or_cases, or_left, or_right, and_from, and_parts, lt-ltb, ltb-true, cases_lt}
 use Rattle.std.specs.Cmp.{both_ways, tied_itself}
 use Rattle.std.specs.Ordering.{is_eq, eq_by_cmp}
 use Rattle.std.specs.List.{list_any}
@@ -31,7 +31,7 @@ use Rattle.reg_journal.specs.Journal.{Journal, IsOffice, is_own}
 use Rattle.reg_journal.specs.Standing.{IsHonest}
 use Rattle.reg_journal.specs.Adding.{is_new, new_in, added}
 use Rattle.reg_journal.proofs.NumbersLemmas.{IsNumber, numbers_in, in_numbers, own_of, of_own}
-use Rattle.reg_journal.proofs.JoiningLemmas.{honest_agrees, honest_joins}
+use Rattle.reg_journal.proofs.JoiningLemmas.{honest_agrees, honest_joins, same_ok}
 use Rattle.reg_journal.proofs.AddingLemmas.{new_numbers, contains-new, numbered_above, above_numbered}
 
 -- ---- an effect that is not refused is not redundant
@@ -163,9 +163,6 @@ named_there x (q ∷ os) o i none h named =
 
 -- ---- the join with the office file, and what a command leaves
 
-same_ok : {x y : Content} → ◌≡◌ {A = Result Content Id} (Ok x) (Ok y) → x ≡ y
-same_ok h = cc
-
 module _ (f : Journal) (x y : Content) (office : IsOffice f) (content : IsContent x) (honest : IsHonest f x) (j : joined x f.made ≡ Ok y) where
   y_is : y ≡ merged x f.made
   y_is = same_ok (sym j ∙ honest_joins f x office content honest)
@@ -178,13 +175,10 @@ module _ (f : Journal) (x y : Content) (office : IsOffice f) (content : IsConten
 
   -- the register has seen no number of the office above the last one
   bounded : (i : Id) → contains x.seen i ≡ true → is_own f.replica i ≡ true → i.count ≤ f.last
-  bounded i h own = elim (below i.count f.last) [
-    | inl a ↦ a
-    | inr b ↦ absurd (true≢false (sym (and_from (is_own f.replica i) _ own (or_left (nat_lt f.last i.count && contains x.seen i) _ (and_from _ _ (lt-ltb f.last i.count b) h))) ∙ honest i))
+  bounded i h own = elim (cases_lt f.last i.count) [
+    | inl b ↦ absurd (true≢false (sym (and_from (is_own f.replica i) _ own (or_left (nat_lt f.last i.count && contains x.seen i) _ (and_from _ _ (lt-ltb f.last i.count b) h))) ∙ honest i))
+    | inr a ↦ a
   ]
-    where
-      below : (a b : ℕ) → (a ≤ b) ⊎ (b < a)
-      below a b = grind arith
 
   -- so its join with the office file has seen the last one, and none above it
   pub next_number : greatest f.replica y.seen ≡ f.last
@@ -280,16 +274,13 @@ module _ (f : Journal) (x y : Content) (office : IsOffice f) (content : IsConten
     }))
       where
         top : 0 < f.last + length bs → (contains y.seen (id_at f.replica (f.last + length bs)) || contains (ids all) (id_at f.replica (f.last + length bs))) ≡ true
-        top h = elim (none_or_some (length bs)) [
+        top h = elim (eq-zero-or-pos (length bs)) [
           | inl a ↦
               let last : f.last + length bs ≡ f.last = omega (arith, a) in
               or_left _ _ (subst (λ n. contains y.seen (id_at f.replica n) ≡ true) (sym last) (seen_last (omega (arith, h, a))))
           | inr b ↦ or_right (contains y.seen (id_at f.replica (f.last + length bs))) _ (ids_in (id_at f.replica (f.last + length bs)) (record { own = refl; low = omega (arith, b); high = omega arith }))
         ]
           where
-            none_or_some : (n : ℕ) → (n ≡ 0) ⊎ (0 < n)
-            none_or_some n = grind arith
-
             seen_last : 0 < f.last → contains y.seen (id_at f.replica f.last) ≡ true
             seen_last h = subst (λ s. contains s (id_at f.replica f.last) ≡ true) (sym y_seen) (contains-union id_total x.seen f.made.seen (id_at f.replica f.last)
                 ∙ or_right (contains x.seen (id_at f.replica f.last)) _ (subst (λ s. contains s (id_at f.replica f.last) ≡ true) (sym office.seen) (in_numbers f.replica f.last (id_at f.replica f.last) (record { own = refl; low = h; high = omega arith }))))

@@ -8,6 +8,7 @@ use Rattle.std.specs.Ordering.{is_lt, is_eq, eq_by_cmp, ordering_then, ordering_
 use Rattle.std.specs.declared.cmp.Ordering.{Ordering}
 use Rattle.std.specs.declared.cmp.Ordering.TheVariants.{Less, Equal, Greater}
 use Rattle.std.proofs.lemmas.List.Sorted.{ranks_by}
+use Rattle.std.proofs.lemmas.Option.{same_Some, none-some}
 use Rattle.reg_op.specs.Set as set
 use Rattle.reg_op.specs.Set.{contains, items, Ascends, items-from_list}
 use Rattle.reg_op.specs.Ids.{Id, id_cmp, is_before}
@@ -194,15 +195,12 @@ clash_found s i h =
       },
     )
 
-some_same : (i j : Id) → ◌≡◌ {A = Option Id} (Some i) (Some j) → i ≡ j
-some_same i j h = cc
-
 pub clash_least : (s : Ops) (i : Id) → first_clash s ≡ Some i ↔ IsLeastClash s i
 clash_least s i = (
   λ h.
       elim (list_any (has_other_body s) (items s)) as (λ b. list_any (has_other_body s) (items s) ≡ b → IsLeastClash s i) [
-        | true ↦ λ e. let r = clash_found s i e in subst (IsLeastClash s) (some_same r.0.id i (sym r.1 ∙ h)) r.2
-        | false ↦ λ e. absurd (none_some i (sym (ap (option_map (λ (o : Op). o.id)) (find_none (has_other_body s) (items s) e)) ∙ h))
+        | true ↦ λ e. let r = clash_found s i e in subst (IsLeastClash s) (same_Some r.0.id i (sym r.1 ∙ h)) r.2
+        | false ↦ λ e. absurd (none-some i (sym (ap (option_map (λ (o : Op). o.id)) (find_none (has_other_body s) (items s) e)) ∙ h))
       ] refl,
   λ l.
       let here : list_any (has_other_body s) (items s) ≡ true = any_of (has_other_body s) (items s) l.one (sym (set.contains-items s l.one) ∙ l.has_one) (any_from_member op_total op_exact (λ y. clashes y l.one) s l.other l.has_other l.differ) in
@@ -211,9 +209,6 @@ clash_least s i = (
       let not_later : is_before i r.0.id ≡ false = subst (λ j. is_before j r.0.id ≡ false) l.at (r.2.least l.other l.one l.has_other l.has_one l.differ) in
       r.1 ∙ ap Some (same_id r.0.id i not_sooner not_later),
 )
-  where
-    none_some : (i : Id) → ◌≡◌ {A = Option Id} None (Some i) → ⊥
-    none_some i h = cc
 
 pub clash_none : (s : Ops) → (first_clash s ≡ None) ↔ OneBody s
 clash_none s = (one_body_from s, no_clash s)

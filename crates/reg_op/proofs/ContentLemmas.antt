@@ -87,7 +87,7 @@ other_body_refuted s one o m = false_from_ne_true _ (λ h.
     let differ : is_eq (op_cmp o o) ≡ false = subst (λ p. is_eq (op_cmp p o) ≡ false) is (not-true _ q.1) in
     true≢false (sym (ap is_eq (tied_itself op_total o)) ∙ differ))
 
-find_none : {K : Type 0} (t : K → Bool) (xs : List K) → list_any t xs ≡ false → find t xs ≡ None
+pub find_none : {K : Type 0} (t : K → Bool) (xs : List K) → list_any t xs ≡ false → find t xs ≡ None
 find_none t [] h = refl
 find_none t (x ∷ xs) h = let p = or_parts (t x) (list_any t xs) h in cond-false (t x) _ _ p.0 ∙ find_none t xs p.1
 

@@ -1,6 +1,7 @@
 -- The least operation that is not kept.
-use Rattle.std.proofs.Common.{◌≡◌, Bool, true, false, not, ◌&&◌, Option, Some, None, refl, sym, ap, ◌∙◌, subst, ◌↔◌}
+use Rattle.std.proofs.Common.{◌≡◌, Bool, true, false, not, ◌&&◌, Some, None, refl, sym, ap, ◌∙◌, subst, ◌↔◌}
 use Rattle.std.proofs.lemmas.Bool.{true≢false, false_from_ne_true, true_from_ne_false, not-false}
+use Rattle.std.proofs.lemmas.Option.{same_Some, none-some}
 use Rattle.std.specs.Cmp.{both_ways}
 use Rattle.std.specs.List.{list_any}
 use Rattle.std.specs.Option.{option_map}
@@ -44,17 +45,11 @@ dropped_some s o h d = any_of (goes s) (items s) o (sym (contains-items s o) ∙
 dropped_none_of : (s : Ops) → list_any (goes s) (items s) ≡ false → first_dropped s ≡ None
 dropped_none_of s h = ap (option_map (λ (o : Op). o.id)) (find_none (goes s) (items s) h)
 
-some_same : (i j : Id) → ◌≡◌ {A = Option Id} (Some i) (Some j) → i ≡ j
-some_same i j h = cc
-
-none_some : (i : Id) → ◌≡◌ {A = Option Id} None (Some i) → ⊥
-none_some i h = cc
-
 pub dropped_least : (s : Ops) (i : Id) → (first_dropped s ≡ Some i) ↔ IsLeastDropped s i
 dropped_least s i = (
   λ h. elim (list_any (goes s) (items s)) as (λ b. list_any (goes s) (items s) ≡ b → IsLeastDropped s i) [
-    | true ↦ λ e. let r = dropped_found s e in subst (IsLeastDropped s) (some_same r.0 i (sym r.1 ∙ h)) r.2
-    | false ↦ λ e. absurd (none_some i (sym (dropped_none_of s e) ∙ h))
+    | true ↦ λ e. let r = dropped_found s e in subst (IsLeastDropped s) (same_Some r.0 i (sym r.1 ∙ h)) r.2
+    | false ↦ λ e. absurd (none-some i (sym (dropped_none_of s e) ∙ h))
   ] refl,
   λ l.
       let r = dropped_found s (dropped_some s l.one l.there l.dropped) in
@@ -67,7 +62,7 @@ pub dropped_none : (s : Ops) → (first_dropped s ≡ None) ↔ (kept s ≡ s)
 dropped_none s = (
   λ h. same_set op_total op_exact _ _ (λ o. both_ways _ _
       (kept_is_within s o)
-      (λ k. true_from_ne_false _ (λ d. let r = dropped_found s (dropped_some s o k d) in none_some r.0 (sym h ∙ r.1)))),
+      (λ k. true_from_ne_false _ (λ d. let r = dropped_found s (dropped_some s o k d) in none-some r.0 (sym h ∙ r.1)))),
   λ same. dropped_none_of s (false_from_ne_true _ (λ e.
       let r = dropped_found s e in
       true≢false (sym (subst (λ t. contains t r.2.one ≡ true) (sym same) r.2.there) ∙ r.2.dropped))),

@@ -1,24 +1,14 @@
 -- Laws of finite sets: `any`, the union, and the members that no member is above.
 use Rattle.std.proofs.Common.{◌≡◌, Bool, true, false, not, ◌&&◌, ◌||◌, cond, List, [], ◌∷◌, refl, sym, ap, ◌∙◌, subst, inl, inr, ◌⊎◌}
 use Rattle.std.proofs.lemmas.Bool.{or_cases, or_left, or_right, and_from, and_parts, not_from_false, false_from_ne_true, true≢false}
+use Rattle.std.proofs.Math.Bool.{or_assoc, or_comm, or_self, or_self_left}
 use Rattle.std.specs.List.{list_any}
 use Rattle.std.specs.declared.cmp.Ordering.{Ordering}
 use Rattle.std.specs.Ordering.{eq_by_cmp, is_eq}
 use Rattle.std.specs.Cmp.{IsTotalOrder, both_ways, Equal-is, tied_itself}
-use mathlib.Core.Bool.{or_self, or_self_left}
 use Rattle.reg_op.specs.Set as set
 use Rattle.reg_op.specs.Set.{Set, IsAntisymmetric, contains, items, union, contains-items, contains-union, contains-retain, contains-empty, same_set}
 use Rattle.reg_op.specs.Finite.{any, topmost}
-
-or_comm : (a b : Bool) → (a || b) ≡ (b || a)
-or_comm true true = refl
-or_comm true false = refl
-or_comm false true = refl
-or_comm false false = refl
-
-or_assoc : (a b c : Bool) → ((a || b) || c) ≡ (a || (b || c))
-or_assoc true b c = refl
-or_assoc false b c = refl
 
 and_again : (a b : Bool) → ((a && b) && b) ≡ (a && b)
 and_again true true = refl
@@ -179,10 +169,6 @@ module _ {K : Type 0} {R : K → K → Ordering} (o : IsTotalOrder R) (same : Is
         ∙ (λ i. contains-topmost s x i && not (any-topmost (λ p. above p x) (λ p y h k. transitive p y x h k) s i))
         ∙ and_again (contains s x) (not (any (λ p. above p x) s))
         ∙ sym (contains-topmost s x))
-
-    and-false : (a : Bool) → (a && false) ≡ false
-    and-false true = refl
-    and-false false = refl
 
     mixed : (a b d e : Bool) → ((a || b) && not (d || e)) ≡ (((a && not d) || (b && not e)) && not (d || e))
     mixed true true true true = refl

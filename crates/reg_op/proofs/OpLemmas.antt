@@ -13,6 +13,7 @@ use Rattle.std.proofs.lemmas.Map.Lookups.{exact_pairs}
 use Rattle.reg_op.specs.Ids.{Id, id_cmp, is_before, is_same}
 use Rattle.reg_op.specs.Operations.{Body, Enter, Supersede, Retire, kind_of, text_of, named_in, Op, Ops, body_cmp, op_cmp, replaces_body, replaces, kept}
 use Rattle.reg_op.proofs.FiniteLemmas.{topmost-union}
+use Rattle.reg_op.proofs.SetLemmas.{less}
 
 pub bytes_exact : IsAntisymmetric (slice_cmp nat_cmp)
 bytes_exact = slice_cmp-IsAntisymmetric nat_cmp-IsAntisymmetric
@@ -69,10 +70,6 @@ is_same_chain a b c h k = (eq_by_cmp_equiv id_total).congr a b c h ∙ k
 
 pub is_before_chain : (a b c : Id) → is_before a b ≡ true → is_before b c ≡ true → is_before a c ≡ true
 is_before_chain a b c h k = ap is_lt (id_total.trans a b c (less _ h) (less _ k))
-  where
-    less : (r : Ordering) → is_lt r ≡ true → r ≡ Less
-    less Less h = refl
-    less r h = cc
 
 pub not_before_itself : (a : Id) → is_before a a ≡ true → ⊥
 not_before_itself a h = true≢false (sym h ∙ ap is_lt (tied_itself id_total a))

@@ -5,6 +5,7 @@ use Rattle.std.specs.List.{list_any, find}
 use Rattle.std.specs.Cmp.{Equal-is, tied_itself}
 use Rattle.std.specs.Ordering.{is_eq, eq_by_cmp}
 use Rattle.std.proofs.lemmas.List.Sorted.{ranks_by}
+use Rattle.std.proofs.lemmas.Option.{same_Some, none-some}
 use Rattle.reg_op.specs.Set.{contains, items, contains-items, union}
 use Rattle.reg_op.specs.Ids.{Id, Ids, id_cmp, is_before}
 use Rattle.reg_op.specs.Operations.{Ops, ids, OneBody}
@@ -16,6 +17,7 @@ use Rattle.reg_op.proofs.ClashLemmas.{same_id, lt_id_itself}
 use Rattle.reg_op.proofs.SetLemmas.{AllAbove, Climbs, items_climb}
 use Rattle.reg_op.proofs.JoinLemmas.{joined_is_content}
 use Rattle.reg_op.proofs.PieceLemmas.{joined-outside}
+use Rattle.reg_op.proofs.ContentLemmas.{find_none}
 
 -- ---- the first id of an ascending list that passes is the least
 
@@ -64,10 +66,6 @@ first_of t (x ∷ xs) up h =
       )
     ] refl h
 
-none_of : (t : Id → Bool) (xs : List Id) → list_any t xs ≡ false → find t xs ≡ None
-none_of t [] h = refl
-none_of t (x ∷ xs) h = elim (t x) as (λ b. (b || list_any t xs) ≡ false → cond b (Some x) (find t xs) ≡ None) [ true ↦ λ e. absurd (true≢false e) | false ↦ λ e. none_of t xs e ] h
-
 -- ---- the least missing id
 
 abbrev unseen : Ids → Id → Bool
@@ -91,17 +89,11 @@ missing_found b v h =
 missing_some : (b v : Ids) (i : Id) → contains b i ≡ true → contains v i ≡ false → misses b v ≡ true
 missing_some b v i h n = among id_total id_exact (unseen v) (items b) i (sym (contains-items b i) ∙ h) (not_from_false _ n)
 
-some_same : (i j : Id) → ◌≡◌ {A = Option Id} (Some i) (Some j) → i ≡ j
-some_same i j h = cc
-
-none_some : (i : Id) → ◌≡◌ {A = Option Id} None (Some i) → ⊥
-none_some i h = cc
-
 pub missing_least : (b v : Ids) (i : Id) → (first_missing b v ≡ Some i) ↔ IsLeastMissing b v i
 missing_least b v i = (
   λ h. elim (misses b v) as (λ t. misses b v ≡ t → IsLeastMissing b v i) [
-    | true ↦ λ e. let r = missing_found b v e in subst (IsLeastMissing b v) (some_same r.0 i (sym r.1 ∙ h)) r.2
-    | false ↦ λ e. absurd (none_some i (sym (none_of (unseen v) (items b) e) ∙ h))
+    | true ↦ λ e. let r = missing_found b v e in subst (IsLeastMissing b v) (same_Some r.0 i (sym r.1 ∙ h)) r.2
+    | false ↦ λ e. absurd (none-some i (sym (find_none (unseen v) (items b) e) ∙ h))
   ] refl,
   λ l.
       let r = missing_found b v (missing_some b v i l.there l.unseen) in
@@ -110,8 +102,8 @@ missing_least b v i = (
 
 pub missing_none : (b v : Ids) → (first_missing b v ≡ None) ↔ IsHeld b v
 missing_none b v = (
-  λ h i k. true_from_ne_false _ (λ n. let r = missing_found b v (missing_some b v i k n) in none_some r.0 (sym h ∙ r.1)),
-  λ held. none_of (unseen v) (items b) (false_from_ne_true _ (λ e.
+  λ h i k. true_from_ne_false _ (λ n. let r = missing_found b v (missing_some b v i k n) in none-some r.0 (sym h ∙ r.1)),
+  λ held. find_none (unseen v) (items b) (false_from_ne_true _ (λ e.
       let r = missing_found b v e in true≢false (sym (held r.0 r.2.there) ∙ r.2.unseen))),
 )
 

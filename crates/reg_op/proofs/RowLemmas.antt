@@ -1,7 +1,8 @@
 -- The rows, conflicts and awaited ids of a set are those of its kept operations.
 use Rattle.std.proofs.Common.{◌≡◌, ℕ, Bool, true, false, not, ◌&&◌, ◌||◌, cond, List, [], ◌∷◌, ◌++◌, refl, sym, ap, ◌∙◌, subst, ◌↔◌}
-use Rattle.std.proofs.lemmas.Bool.{true≢false}
+use Rattle.std.proofs.lemmas.Bool.{true≢false, not-false}
 use Rattle.std.proofs.lemmas.List.Folds.{list_any-append}
+use Rattle.std.proofs.Math.Bool.{or-false}
 use Rattle.std.specs.List.{list_any, flat_map, filter}
 use Rattle.reg_op.specs.Set as set
 use Rattle.reg_op.specs.Set.{contains, items, contains-from_list, contains-empty, same_set}
@@ -20,12 +21,8 @@ newer_one : (e n : Id) (b : Body) → list_any (is_same n) (newer_in e b) ≡ is
 newer_one e n (Enter text) = refl
 newer_one e n (Supersede old newer) = from (is_same e old)
   where
-    or_end : (a : Bool) → (a || false) ≡ a
-    or_end true = refl
-    or_end false = refl
-
     from : (b : Bool) → list_any (is_same n) (cond b (newer ∷ []) []) ≡ (b && is_same n newer)
-    from true = or_end _
+    from true = or-false _
     from false = refl
 newer_one e n (Retire entry) = refl
 
@@ -71,11 +68,7 @@ pub rows-kept : (s : Ops) → rows (kept s) ≡ rows s
 rows-kept s =
     (λ k. flat_map (λ (o : Op). rows_at-kept s o.id o.body k) (items-retain _ op_total op_exact s (λ o. not (any (λ p. replaces p o) s)) k))
     ∙ flat_map-filter (λ (o : Op). rows_at s o.id o.body) (λ o. not (any (λ p. replaces p o) s)) (items s)
-    (λ o h. let r = member_from_any op_total op_exact (λ p. replaces p o) s (not_false _ h) in replaced_rowless s _ r.0.body o.id o.body r.2)
-  where
-    not_false : (b : Bool) → not b ≡ false → b ≡ true
-    not_false true h = refl
-    not_false false h = absurd (true≢false h)
+    (λ o h. let r = member_from_any op_total op_exact (λ p. replaces p o) s (not-false _ h) in replaced_rowless s _ r.0.body o.id o.body r.2)
 
 pub conflicts-kept : {Key : Type 0} (HasKey : List ℕ → Key → Type 0) (s : Ops) (key : Key) → IsInConflict HasKey (rows (kept s)) key ↔ IsInConflict HasKey (rows s) key
 conflicts-kept HasKey s key = (

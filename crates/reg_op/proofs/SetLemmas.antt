@@ -1,6 +1,7 @@
 -- The items of a set ascend, and those of a retained part are the items that pass.
 use Rattle.std.proofs.Common.{◌≡◌, Bool, true, false, ◌&&◌, ◌||◌, cond, T, List, [], ◌∷◌, map as list_map, refl, sym, ap, ◌∙◌}
 use Rattle.std.proofs.lemmas.Bool.{true≢false, and_parts}
+use Rattle.std.proofs.Math.Bool.{and-false}
 use Rattle.std.specs.List.{list_any, filter}
 use Rattle.std.specs.FinMap as map
 use Rattle.std.specs.FinMap.Entries.{is_sorted, below_all}
@@ -66,11 +67,7 @@ module _ {K : Type 0} (R : K → K → Ordering) where
       at : (b c : Bool) → b ≡ c → eq_by_cmp R q x ≡ true → list_any (eq_by_cmp R q) (filter p xs) ≡ (list_any (eq_by_cmp R q) xs && c) → list_any (eq_by_cmp R q) (cond b (x ∷ filter p xs) (filter p xs)) ≡ c
       at true c f e rest = (λ k. e k || list_any (eq_by_cmp R q) (filter p xs)) ∙ f
       at false true f e rest = cc
-      at false false f e rest = rest ∙ and_false _
-        where
-          and_false : (a : Bool) → (a && false) ≡ false
-          and_false true = refl
-          and_false false = refl
+      at false false f e rest = rest ∙ and-false _
 
       past : (b : Bool) → eq_by_cmp R q x ≡ false → list_any (eq_by_cmp R q) (filter p xs) ≡ (list_any (eq_by_cmp R q) xs && p q) → list_any (eq_by_cmp R q) (cond b (x ∷ filter p xs) (filter p xs)) ≡ (list_any (eq_by_cmp R q) xs && p q)
       past true e rest = (λ k. e k || list_any (eq_by_cmp R q) (filter p xs)) ∙ rest

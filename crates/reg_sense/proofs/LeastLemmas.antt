@@ -1,6 +1,7 @@
 -- The least of a list, one element at a time.
 use Rattle.std.proofs.Common.{◌≡◌, ◌⊎◌, Bool, true, false, not, ◌||◌, cond, Option, Some, None, List, [], ◌∷◌, refl, sym, ap, ◌∙◌, subst, inl, inr}
 use Rattle.std.proofs.lemmas.Bool.{true≢false, or_parts, or_from}
+use Rattle.std.proofs.Math.Bool.{or-true}
 use Rattle.std.specs.Cmp.{IsStrictWeakOrder}
 use Rattle.std.specs.List.{find, list_any}
 use Rattle.reg_sense.specs.Least.{least, lesser}
@@ -56,13 +57,9 @@ module _ {X : Type 0} (less : X → X → Bool) (rank : IsStrictWeakOrder less) 
 
   same_test : (xs : List X) (x : X) → any x xs ≡ true → (t : X) → not (less x t || any t xs) ≡ not (any t xs)
   same_test xs x some t = elim (any t xs) as (λ b. any t xs ≡ b → not (less x t || any t xs) ≡ not (any t xs)) [
-    | true ↦ λ e. rw e (by (less x t))
+    | true ↦ λ e. rw (e, or-true (less x t)) refl
     | false ↦ λ e. let f = rank.one_way t x (under xs t x some e) in rw (e, f) refl
   ] refl
-    where
-      by : (b : Bool) → not (b || true) ≡ false
-      by true = refl
-      by false = refl
 
   -- an element in front, given that there is a least of the others
   step : (x : X) (xs : List X) → (xs ≡ []) ⊎ ((c : X) × (least less xs ≡ Some c)) → least less (x ∷ xs) ≡ Some (lesser less x (least less xs))

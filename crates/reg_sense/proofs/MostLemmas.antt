@@ -1,5 +1,5 @@
 -- What most claim, one claim at a time.
-use Rattle.std.proofs.Common.{◌≡◌, ℕ, Bool, true, false, cond, Option, Some, None, List, [], ◌∷◌, ◌++◌, ◌-◌, length, map, filter, refl, sym, ap, ◌∙◌, arith}
+use Rattle.std.proofs.Common.{◌≡◌, ℕ, true, false, cond, Option, Some, None, List, [], ◌∷◌, ◌++◌, ◌-◌, length, map, filter, refl, sym, ap, ◌∙◌, arith}
 use Rattle.std.proofs.lemmas.Bool.{true≢false}
 use Rattle.std.proofs.lemmas.Cmp.{nat_cmp_total, nat_list_cmp_total, then_total, on_total}
 use Rattle.std.proofs.lemmas.List.MinMax.{ranks_by}
@@ -14,7 +14,7 @@ use Rattle.reg_sense.specs.Claimants.{Voice, key_text, is_about}
 use Rattle.reg_sense.specs.Least.{least, lesser}
 use Rattle.reg_sense.specs.Most.{claiming, count, contents, most_cmp, is_more, is_content, more_told, those_told}
 use Rattle.reg_sense.specs.Tallies.{Counted, tally, bytes_cmp, seen_in}
-use Rattle.reg_sense.proofs.LeastLemmas.{least_cons}
+use Rattle.reg_sense.proofs.LeastLemmas.{least_cons, lesser_twice}
 use Rattle.reg_sense.proofs.TallyLemmas.{says, nobody_claims}
 
 pub most_total : (vs : List Voice) (w : List ℕ) → IsTotalOrder (most_cmp vs w)
@@ -42,12 +42,6 @@ most_step vs x xs own made q was old new w is before put had = elim (is_about q.
       ∙ (λ j. least (is_more vs q.now) (map (λ (z : Said). z.content) (cond (sym n j) (x ∷ filter (is_about q.now) xs) (filter (is_about q.now) xs))))
 ] refl
 
-lesser_same : {X : Type 0} (less : X → X → Bool) (x : X) → lesser less x (Some x) ≡ x
-lesser_same less x = elim (less x x) as (λ b. cond b x x ≡ x) [
-  | true ↦ refl
-  | false ↦ refl
-]
-
 pub content_is : (o : Option (List ℕ)) (c : List ℕ) → is_content o c ≡ true → o ≡ Some c
 content_is None c e = absurd (true≢false (sym e))
 content_is (Some m) c e = ap Some ((bytes_eq-Decides m c).0 e)
@@ -61,7 +55,7 @@ most_kept vs x xs q old is had = elim (is_about q x) as (λ b. is_about q x ≡ 
       had
       ∙ (λ j. least (is_more vs (sym here j)) (contents (sym here j) xs))
       ∙ is
-      ∙ ap Some (sym (lesser_same (is_more vs x.word) x.content))
+      ∙ ap Some (sym (lesser_twice (is_more vs x.word) x.content None))
       ∙ ap (λ o. Some (lesser (is_more vs x.word) x.content o)) (sym is)
       ∙ sym (least_cons (is_more vs x.word) (most_ranks vs x.word) x.content (contents x.word xs))
       ∙ (λ j. least (is_more vs (here j)) (x.content ∷ contents (here j) xs))

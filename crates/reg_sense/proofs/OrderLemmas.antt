@@ -4,6 +4,7 @@ use Rattle.std.proofs.lemmas.Bool.{true≢false}
 use Rattle.std.proofs.lemmas.List.Sorted.{list_any-IsPermutation, sum_by-IsPermutation}
 use Rattle.std.proofs.lemmas.List.Sums.{length-filter}
 use Rattle.std.proofs.lemmas.Slice.Eq.{bytes_eq-Decides}
+use Rattle.std.proofs.lemmas.Iterator.Adapters.{option_map_id}
 use Rattle.std.specs.Cmp.{IsTotalOrder}
 use Rattle.std.specs.Cmp.Lexicographic.{slice_cmp, texts_ties}
 use Rattle.std.specs.List.{list_any}
@@ -92,10 +93,6 @@ by_key : (v : Voice) (o : Option Voice) → is_some (twin_maybe v o) ≡ is_anot
 by_key v None = refl
 by_key v (Some t) = elim (has_same_key t v) as (λ b. is_some (cond b None (Some (twin_text t))) ≡ not b) [ true ↦ refl | false ↦ refl ]
 
-itself : (o : Option (List ℕ)) → option_map (λ (c : List ℕ). c) o ≡ o
-itself None = refl
-itself (Some c) = refl
-
 -- ---- two orders of the same systems
 
 module _ (vs ws : List Voice) (same : IsPermutation vs ws) where
@@ -128,9 +125,9 @@ module _ (vs ws : List Voice) (same : IsPermutation vs ws) where
   same_most : (w : List ℕ) → most vs w ≡ most ws w
   same_most w =
       (λ j. least (λ c d. same_more w c d j) (contents w (all_claims vs)))
-      ∙ sym (itself (least (is_more ws w) (contents w (all_claims vs))))
+      ∙ sym (option_map_id (least (is_more ws w) (contents w (all_claims vs))))
       ∙ same_least (is_more ws w) (most_ranks ws w) (λ (c : List ℕ). c) (one_content w) (contents w (all_claims vs)) (contents w (all_claims ws)) (same_contents w)
-      ∙ itself (most ws w)
+      ∙ option_map_id (most ws w)
 
   odd_some : (x : Said) → is_some (odd_told vs x) ≡ is_some (odd_told ws x)
   odd_some x =

@@ -5,11 +5,10 @@ use Rattle.std.proofs.lemmas.List.{map-append, length-map, length-append}
 use Rattle.std.proofs.lemmas.Slice.Eq.{bytes_eq-Decides}
 use Rattle.std.specs.Str.{bytes_eq}
 use Rattle.std.specs.List.{list_any}
-use Rattle.std.specs.Ordering.{nat_cmp, is_eq, ordering_then}
+use Rattle.std.specs.Ordering.{nat_cmp, is_eq}
 use Rattle.std.specs.Cmp.Lexicographic.{slice_cmp, texts_ties}
-use Rattle.std.specs.declared.cmp.Ordering.{Ordering}
-use Rattle.std.specs.declared.cmp.Ordering.TheVariants.{Less, Equal, Greater}
-use Rattle.std.proofs.lemmas.Option.{same_Some}
+use Rattle.std.proofs.lemmas.Option.{same_Some, none-some}
+use Rattle.std.specs.Cmp.{tied_then}
 use Rattle.crs_said.specs.Claims.{Said}
 use Rattle.reg_sense.specs.declared.tally.WordAndContent.{WordAndContent}
 use Rattle.reg_sense.specs.declared.tally.ClaimTally.{ClaimTally}
@@ -17,15 +16,10 @@ use Rattle.reg_sense.specs.Claimants.{Voice, is_claim}
 use Rattle.reg_sense.specs.Most.{claiming, count}
 use Rattle.reg_sense.specs.Tallies.{Counted, counted, with_first, tally, with_one, IsRoomy, pair_cmp}
 
-then_eq : (r t : Ordering) → is_eq (ordering_then r t) ≡ (is_eq r && is_eq t)
-then_eq Less t = refl
-then_eq Equal t = refl
-then_eq Greater t = refl
-
 -- keys of the map are equal if the claims are
 pub same_pair : (own q : WordAndContent) (x : Said) → own.word.now ≡ x.word → own.content.now ≡ x.content → is_eq (pair_cmp own q) ≡ is_claim q.word.now q.content.now x
 same_pair own q x w c =
-    then_eq (slice_cmp nat_cmp own.word.now q.word.now) (slice_cmp nat_cmp own.content.now q.content.now)
+    sym (tied_then (slice_cmp nat_cmp own.word.now q.word.now) (slice_cmp nat_cmp own.content.now q.content.now))
     ∙ (λ j. sym (texts_ties own.word.now q.word.now) j && sym (texts_ties own.content.now q.content.now) j)
     ∙ (λ j. bytes_eq (w j) q.word.now && bytes_eq (c j) q.content.now)
 
@@ -36,9 +30,6 @@ pub claimed_content : (w c : List ℕ) (x : Said) → is_claim w c x ≡ true �
 claimed_content w c x e = (bytes_eq-Decides x.content c).0 (and_parts (bytes_eq x.word w) (bytes_eq x.content c) e).1
 
 -- ---- numbers
-
-no_some : {X : Type 0} (x : X) → Some x ≡ None → ⊥
-no_some x e = cc
 
 module _ (w c : List ℕ) where
   abbrev has : List Said → Bool
@@ -82,7 +73,7 @@ module _ (w c : List ℕ) where
   pub nobody_claims : (i : ℕ) (vs : List Voice) → tally w c i vs ≡ None → claiming w c vs ≡ []
   nobody_claims i [] e = refl
   nobody_claims i (v ∷ vs) e = elim (has v.claims) as (λ b. has v.claims ≡ b → claiming w c (v ∷ vs) ≡ []) [
-    | true ↦ λ y. absurd (no_some (with_first w c i v vs) ((λ j. cond (sym y j) (Some (with_first w c i v vs)) (tally w c (suc i) vs)) ∙ e))
+    | true ↦ λ y. absurd (none-some (with_first w c i v vs) (sym e ∙ (λ j. cond (y j) (Some (with_first w c i v vs)) (tally w c (suc i) vs))))
     | false ↦ λ n. (λ j. cond (n j) (v ∷ claiming w c vs) (claiming w c vs)) ∙ nobody_claims (suc i) vs ((λ j. cond (sym n j) (Some (with_first w c i v vs)) (tally w c (suc i) vs)) ∙ e)
   ] refl
 

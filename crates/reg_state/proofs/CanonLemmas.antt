@@ -1,23 +1,15 @@
 -- Lists of maximal runs that have the same ids are equal.
-use Rattle.std.proofs.Common.{◌≡◌, ℕ, ◌+◌, ◌<◌, ◌≤◌, true, false, ◌||◌, List, [], ◌∷◌, refl, sym, ap, ◌∙◌, subst, inl, inr, ◌⊎◌, arith}
-use Rattle.std.proofs.lemmas.Bool.{true≢false, or_cases, or_left, false_from_ne_true}
+use Rattle.std.proofs.Common.{◌≡◌, ℕ, ◌+◌, ◌≤◌, true, false, ◌||◌, List, [], ◌∷◌, refl, sym, ap, ◌∙◌, subst, inl, inr, ◌⊎◌, arith}
+use Rattle.std.proofs.lemmas.Bool.{true≢false, or_cases, or_left, false_from_ne_true, cases_lt}
 use Rattle.reg_op.specs.Set as set
 use Rattle.reg_op.specs.Ids.{Id}
 use Rattle.reg_state.specs.declared.run.Run.{Run}
 use Rattle.reg_state.specs.Runs.{IsBelow, id_at, is_in_run, is_in_runs, IsBeyond, IsRun, IsApart, AreRuns, seen_of}
-use Rattle.reg_state.proofs.RunLemmas.{below_chain, not_below_itself, not_below_same, contains-seen_of}
+use Rattle.reg_state.proofs.RunLemmas.{below_chain, not_below_itself, not_below_same, contains-seen_of, first_run, rest_runs}
 use Rattle.reg_state.proofs.SearchLemmas.{IsWithin, within, in_run}
 
 pub run_has : (r : Run) (c : ℕ) → r.low ≤ c → c ≤ r.high → is_in_run (id_at r.replica c) r ≡ true
 run_has r c h k = in_run (id_at r.replica c) r (record { replica = refl; low = h; high = k })
-
-AreRuns-head : (r : Run) (rs : List Run) → AreRuns (r ∷ rs) → IsRun r
-AreRuns-head r [] h = h
-AreRuns-head r (s ∷ rs) h = h.0
-
-AreRuns-rest : (r : Run) (rs : List Run) → AreRuns (r ∷ rs) → AreRuns rs
-AreRuns-rest r [] h = tt
-AreRuns-rest r (s ∷ rs) h = h.2
 
 beyond_in : (r s : Run) (i : Id) → IsApart r s → IsWithin i s → IsBeyond r i
 beyond_in r s i (inl a) w = inl (subst (λ q. IsBelow r.replica q) (sym w.replica) a)
@@ -33,7 +25,7 @@ pub far_from : (r : Run) (rs : List Run) (i : Id) → AreRuns (r ∷ rs) → is_
 far_from r [] i h k = absurd (true≢false (sym k))
 far_from r (s ∷ ss) i h k = elim (or_cases (is_in_run i s) (is_in_runs i ss) k) [
   | inl e ↦ beyond_in r s i h.1 (within i s e)
-  | inr e ↦ beyond_on r s i h.1 (AreRuns-head s ss h.2) (far_from s ss i h.2 e)
+  | inr e ↦ beyond_on r s i h.1 (first_run s ss h.2) (far_from s ss i h.2 e)
 ]
 
 -- i is no earlier than the first id of s
@@ -43,7 +35,7 @@ IsFrom s i = IsBelow s.replica i.replica ⊎ ((s.replica ≡ i.replica) × (s.lo
 pub from_first : (s : Run) (ss : List Run) (i : Id) → AreRuns (s ∷ ss) → is_in_runs i (s ∷ ss) ≡ true → IsFrom s i
 from_first s ss i h k = elim (or_cases (is_in_run i s) (is_in_runs i ss) k) [
   | inl e ↦ let w = within i s e in inr (sym w.replica, w.low)
-  | inr e ↦ elim (far_from s ss i h e) [ inl a ↦ inl a | inr b ↦ let is = AreRuns-head s ss h in inr (b.0, omega (arith, b.1, is.1)) ]
+  | inr e ↦ elim (far_from s ss i h e) [ inl a ↦ inl a | inr b ↦ let is = first_run s ss h in inr (b.0, omega (arith, b.1, is.1)) ]
 ]
 
 same_start : (a c : List ℕ) (b d : ℕ) → IsBelow a c ⊎ ((a ≡ c) × (b ≤ d)) → IsBelow c a ⊎ ((c ≡ a) × (d ≤ b)) → (a ≡ c) × (b ≡ d)
@@ -57,16 +49,16 @@ Same rs ss = (i : Id) → is_in_runs i rs ≡ is_in_runs i ss
 
 starts : (r s : Run) (rs ss : List Run) → AreRuns (r ∷ rs) → AreRuns (s ∷ ss) → Same (r ∷ rs) (s ∷ ss) → IsBelow s.replica r.replica ⊎ ((s.replica ≡ r.replica) × (s.low ≤ r.low))
 starts r s rs ss h k e =
-    let is = AreRuns-head r rs h in
+    let is = first_run r rs h in
     from_first s ss (id_at r.replica r.low) k (sym (e _) ∙ or_left _ _ (run_has r r.low (omega arith) is.1))
 
 -- if lists of runs have the same ids and begin at the same id, the first run of one ends no later than that of the other
 ends : (r s : Run) (rs ss : List Run) → AreRuns (r ∷ rs) → AreRuns (s ∷ ss) → Same (r ∷ rs) (s ∷ ss) → r.replica ≡ s.replica → r.low ≡ s.low → s.high ≤ r.high
 ends r s rs ss h k e a b =
-    elim (lt_or_ge r.high s.high) [
+    elim (cases_lt r.high s.high) [
       | inr done ↦ done
       | inl sooner ↦
-          let is = AreRuns-head r rs h in
+          let is = first_run r rs h in
           let i : Id = id_at s.replica (r.high + 1) in
           let there : is_in_runs i (r ∷ rs) ≡ true = e i ∙ or_left _ _ (run_has s (r.high + 1) (omega (arith, is.1)) (omega arith)) in
           absurd (elim (or_cases (is_in_run i r) (is_in_runs i rs) there) [
@@ -74,9 +66,6 @@ ends r s rs ss h k e a b =
             | inr w ↦ elim (far_from r rs i h w) [ inl x ↦ not_below_same r.replica s.replica a x | inr x ↦ omega (arith, x.1) ]
           ])
     ]
-  where
-    lt_or_ge : (a b : ℕ) → (a < b) ⊎ (b ≤ a)
-    lt_or_ge a b = grind arith
 
 pub apart_from : (r : Run) (rs : List Run) (i : Id) → AreRuns (r ∷ rs) → is_in_run i r ≡ true → is_in_runs i rs ≡ false
 apart_from r rs i h k = false_from_ne_true _ (λ e.
@@ -95,8 +84,8 @@ same_run r s a b c = λ k. record { replica = a k; low = b k; high = c k }
 
 equal_runs : (rs ss : List Run) → AreRuns rs → AreRuns ss → Same rs ss → rs ≡ ss
 equal_runs [] [] h k e = refl
-equal_runs [] (s ∷ ss) h k e = let is = AreRuns-head s ss k in absurd (true≢false (sym (e (id_at s.replica s.low) ∙ or_left _ _ (run_has s s.low (omega arith) is.1))))
-equal_runs (r ∷ rs) [] h k e = let is = AreRuns-head r rs h in absurd (true≢false (sym (or_left _ _ (run_has r r.low (omega arith) is.1)) ∙ e (id_at r.replica r.low)))
+equal_runs [] (s ∷ ss) h k e = let is = first_run s ss k in absurd (true≢false (sym (e (id_at s.replica s.low) ∙ or_left _ _ (run_has s s.low (omega arith) is.1))))
+equal_runs (r ∷ rs) [] h k e = let is = first_run r rs h in absurd (true≢false (sym (or_left _ _ (run_has r r.low (omega arith) is.1)) ∙ e (id_at r.replica r.low)))
 equal_runs (r ∷ rs) (s ∷ ss) h k e =
     let back : Same (s ∷ ss) (r ∷ rs) = λ i. sym (e i) in
     let at = same_start s.replica r.replica s.low r.low (starts r s rs ss h k e) (starts s r ss rs k h back) in
@@ -105,7 +94,7 @@ equal_runs (r ∷ rs) (s ∷ ss) h k e =
     let is : r ≡ s = same_run r s (sym at.0) (sym at.1) (omega (arith, one, two)) in
     let k' : AreRuns (r ∷ ss) = subst (λ x. AreRuns (x ∷ ss)) (sym is) k in
     let e' : Same (r ∷ rs) (r ∷ ss) = subst (λ x. Same (r ∷ rs) (x ∷ ss)) (sym is) e in
-    λ j. is j ∷ equal_runs rs ss (AreRuns-rest r rs h) (AreRuns-rest r ss k') (rest_same r rs ss h k' e') j
+    λ j. is j ∷ equal_runs rs ss (rest_runs r rs h) (rest_runs r ss k') (rest_same r rs ss h k' e') j
 
 pub same_runs : (rs ss : List Run) → AreRuns rs → AreRuns ss → seen_of rs ≡ seen_of ss → rs ≡ ss
 same_runs rs ss h k e = equal_runs rs ss h k (λ i. sym (contains-seen_of rs i) ∙ ap (λ s. set.contains s i) e ∙ contains-seen_of ss i)

@@ -1,6 +1,7 @@
 -- The marks that a target covers, and the order of marks.
 use Rattle.std.proofs.Common.{◌≡◌, Bool, true, false, ◌&&◌, refl, sym, ap, ◌∙◌, subst, Option, None, Some}
 use Rattle.std.proofs.lemmas.Bool.{true≢false, and_from, and_parts}
+use Rattle.std.proofs.Math.Bool.{and-false, and-true}
 use Rattle.std.specs.Cmp.{Equal-is, tied_then}
 use Rattle.std.specs.Option.{option_cmp}
 use Rattle.std.specs.Ordering.{is_lt, is_eq, eq_by_cmp, ordering_then, ordering_reverse}
@@ -96,25 +97,17 @@ covers_chain t m q h k =
 
 -- ---- the marks that a target covers begin at the target
 
-and_true : (b : Bool) → b ≡ (b && true)
-and_true true = refl
-and_true false = refl
-
-and_false : (b : Bool) → (b && false) ≡ false
-and_false true = refl
-and_false false = refl
-
-then_less : (r : Ordering) → is_eq (ordering_then r Less) ≡ false
+pub then_less : (r : Ordering) → is_eq (ordering_then r Less) ≡ false
 then_less Less = refl
 then_less Equal = refl
 then_less Greater = refl
 
 at_covered : (e n : Id) (i : Id) (by : Option Id) → is_eq (ordering_then (id_cmp i e) (option_cmp id_cmp by (Some n))) ≡ (is_same e i && covers_by (Some n) by)
-at_covered e n i None = then_less (id_cmp i e) ∙ sym (and_false (is_same e i))
+at_covered e n i None = then_less (id_cmp i e) ∙ sym (and-false (is_same e i))
 at_covered e n i (Some o) = sym (tied_then (id_cmp i e) (id_cmp o n)) ∙ (λ k. same_back i e k && same_back o n k)
 
 begins_by : (e : Id) (by : Option Id) → BeginsAt (record { entry = e; by = by }) (covers (record { entry = e; by = by }))
-begins_by e None = subst (BeginsAt (record { entry = e; by = None })) (λ k m. and_true (is_same e m.target.entry) k) (begins_entry e)
+begins_by e None = subst (BeginsAt (record { entry = e; by = None })) (λ k m. sym (and-true (is_same e m.target.entry)) k) (begins_entry e)
 begins_by e (Some n) = subst (BeginsAt (record { entry = e; by = Some n })) (λ k m. at_covered e n m.target.entry m.target.by k) (begins_at (record { entry = e; by = Some n }))
 
 pub begins_covered : (t : MarkTarget) → BeginsAt t (covers t)

@@ -71,7 +71,7 @@ covered_chain (Some t) x q h e = covers_chain t x q h e
 abbrev NoLesser : List Mark → Mark → Type 0
 NoLesser xs q = (p : Mark) → has xs p ≡ true → lessens p q ≡ true → ⊥
 
-eq_of : (q x : Mark) → eq_by_cmp mark_cmp q x ≡ true → q ≡ x
+pub eq_of : (q x : Mark) → eq_by_cmp mark_cmp q x ≡ true → q ≡ x
 eq_of q x h = mark_exact q x ((Equal-is (mark_cmp q x)).0 h)
 
 pub sound : (t : Option MarkTarget) (xs : List Mark) (q : Mark) → Up xs → AllFrom t xs → has (firsts t xs) q ≡ true → (has xs q ≡ true) × NoLesser xs q × (is_covered t q ≡ false)

@@ -3,14 +3,14 @@ use Rattle.std.proofs.Common.{◌≡◌, ℕ, ◌<◌, ◌≤◌, Bool, true, fa
 use Rattle.std.proofs.lemmas.Bool.{true≢false, and_from, and_parts, or_cases, or_left, or_right, or_parts, not-true, not_from_false, false_from_ne_true, true_from_ne_false}
 use Rattle.std.proofs.lemmas.List.{take-append-drop}
 use Rattle.std.proofs.lemmas.List.Folds.{list_any-append}
+use Rattle.std.proofs.Math.Bool.{and-false, and-true, and_assoc, or-false}
 use Rattle.std.specs.List.{insert, list_any}
 use Rattle.std.specs.List.Sorted.{IsSorted, IsPartitionPoint}
-use Rattle.std.specs.Cmp.{tied_itself, tied_then, Equal-is, both_ways}
+use Rattle.std.specs.Cmp.{tied_itself, tied_then, both_ways}
 use Rattle.std.specs.Option.{option_cmp}
 use Rattle.std.specs.Ordering.{is_lt, is_eq, eq_by_cmp, ordering_then}
 use Rattle.std.specs.declared.cmp.Ordering.{Ordering}
 use Rattle.std.specs.declared.cmp.Ordering.TheVariants.{Less, Equal, Greater}
-use mathlib.Core.Bool.{or-false}
 use Rattle.reg_op.specs.Set as set
 use Rattle.reg_op.specs.Set.{contains, contains-from_list, contains-insert, same_set}
 use Rattle.reg_op.specs.Finite.{any}
@@ -21,45 +21,28 @@ use Rattle.reg_state.specs.declared.mark.MarkTarget.{MarkTarget}
 use Rattle.reg_state.specs.MarkSets.{mark_cmp, is_at, has, MarkSet, lessens_by, lessens, least, AreLeast, covers, AreMarks}
 use Rattle.reg_state.specs.MarkLaws.{mark_total, mark_exact, lessens_irreflexive, lessens_chain, least_least}
 use Rattle.reg_state.proofs.OrderLemmas.{IsBy}
-use Rattle.reg_state.proofs.CoverLemmas.{lesser_covers, first_lessens, covered_lessens, first_of}
-use Rattle.reg_state.proofs.FirstLemmas.{AllBy, Up, sorted_up, up_sorted}
+use Rattle.reg_state.proofs.CoverLemmas.{lesser_covers, first_lessens, covered_lessens, first_of, then_less}
+use Rattle.reg_state.proofs.FirstLemmas.{AllBy, Up, sorted_up, up_sorted, eq_of}
 use Rattle.reg_state.proofs.MarkMergeLemmas.{first_by, by_chain}
 
 -- ---- a mark that makes m redundant is at the target of m, or retires the entry that m supersedes
 
-and_false : (b : Bool) → (b && false) ≡ false
-and_false true = refl
-and_false false = refl
-
-and_assoc : (a b c : Bool) → ((a && b) && c) ≡ (a && (b && c))
-and_assoc true b c = refl
-and_assoc false b c = refl
-
-and_true : (b : Bool) → (b && true) ≡ b
-and_true true = refl
-and_true false = refl
-
-then_equal : (r : Ordering) → is_eq (ordering_then r Equal) ≡ is_eq r
+pub then_equal : (r : Ordering) → is_eq (ordering_then r Equal) ≡ is_eq r
 then_equal Less = refl
 then_equal Equal = refl
 then_equal Greater = refl
 
-then_greater : (r : Ordering) → is_eq (ordering_then r Greater) ≡ false
+pub then_greater : (r : Ordering) → is_eq (ordering_then r Greater) ≡ false
 then_greater Less = refl
 then_greater Equal = refl
 then_greater Greater = refl
-
-then_less : (r : Ordering) → is_eq (ordering_then r Less) ≡ false
-then_less Less = refl
-then_less Equal = refl
-then_less Greater = refl
 
 parts_by : (r : Ordering) (x y : Option Id) (before : Bool)
     → (is_eq r && lessens_by x y before)
     ≡ ((is_eq (ordering_then r (option_cmp id_cmp x y)) && before) || (is_some y && is_eq (ordering_then r (option_cmp id_cmp x None))))
 parts_by r None None before = sym ((λ k. (then_equal r k && before) || false) ∙ or-false _)
-parts_by r None (Some o) before = and_true (is_eq r) ∙ sym (λ k. (then_less r k && before) || then_equal r k)
-parts_by r (Some n) None before = and_false (is_eq r) ∙ sym (λ k. (then_greater r k && before) || false)
+parts_by r None (Some o) before = and-true (is_eq r) ∙ sym (λ k. (then_less r k && before) || then_equal r k)
+parts_by r (Some n) None before = and-false (is_eq r) ∙ sym (λ k. (then_greater r k && before) || false)
 parts_by r (Some n) (Some o) before =
     sym ((λ k. (sym (tied_then r (id_cmp n o)) k && before) || then_greater r k) ∙ or-false _ ∙ and_assoc (is_eq r) (is_same n o) before)
 
@@ -100,9 +83,6 @@ in_more s m q h = contains-insert mark_total s m q ∙ or_right (eq_by_cmp mark_
 
 the_one : (s : MarkSet) (m : Mark) → contains (set.insert s m) m ≡ true
 the_one s m = contains-insert mark_total s m m ∙ or_left _ _ (ap is_eq (tied_itself mark_total m))
-
-pub eq_of : (q x : Mark) → eq_by_cmp mark_cmp q x ≡ true → q ≡ x
-eq_of q x h = mark_exact q x ((Equal-is (mark_cmp q x)).0 h)
 
 -- if a mark of s makes m redundant, inserting m does not change the least marks
 pub needless : (s : MarkSet) (m : Mark) → AreLeast s → any (λ p. lessens p m) s ≡ true → s ≡ least (set.insert s m)
@@ -148,7 +128,7 @@ has_uncovered t [] q = refl
 has_uncovered t (x ∷ xs) q =
     elim (eq_by_cmp mark_cmp q x) as (λ b. eq_by_cmp mark_cmp q x ≡ b → has (cond (not (covers t x)) (x ∷ uncovered t xs) (uncovered t xs)) q ≡ ((b || has xs q) && not (covers t q))) [
       | true ↦ λ e. this (not (covers t x)) true e ∙ (λ k. (not (covers t (sym (eq_of q x e) k)) && true) || has_uncovered t xs q k) ∙ first (not (covers t q)) (has xs q)
-      | false ↦ λ e. this (not (covers t x)) false e ∙ (λ k. and_false (not (covers t x)) k || has_uncovered t xs q k)
+      | false ↦ λ e. this (not (covers t x)) false e ∙ (λ k. and-false (not (covers t x)) k || has_uncovered t xs q k)
     ] refl
   where
     this : (b e : Bool) → eq_by_cmp mark_cmp q x ≡ e → has (cond b (x ∷ uncovered t xs) (uncovered t xs)) q ≡ ((b && e) || has (uncovered t xs) q)

@@ -1,7 +1,8 @@
 -- The marks of the kept operations of a set are the least marks of the whole set.
-use Rattle.std.proofs.Common.{◌≡◌, Result, Ok, Option, Some, None, Bool, true, false, ◌&&◌, ◌||◌, List, [], ◌∷◌, ◌++◌, refl, sym, ap, ◌∙◌, inl, inr}
+use Rattle.std.proofs.Common.{◌≡◌, Result, Ok, Option, Some, None, Bool, true, false, ◌||◌, List, [], ◌∷◌, ◌++◌, refl, sym, ap, ◌∙◌, inl, inr}
 use Rattle.std.proofs.lemmas.Bool.{true≢false, and_parts, or_cases, or_left, not-true}
 use Rattle.std.proofs.lemmas.List.Folds.{list_any-append}
+use Rattle.std.proofs.Math.Bool.{and-false, and-true}
 use Rattle.std.specs.List.{list_any}
 use Rattle.std.specs.declared.convert.Infallible.{Infallible}
 use Rattle.std.specs.Cmp.{tied_itself, both_ways}
@@ -20,7 +21,8 @@ use Rattle.reg_op.proofs.OneLemmas.{any-from_list, kept_free, kept_has}
 use Rattle.reg_state.specs.declared.mark.Mark.{Mark}
 use Rattle.reg_state.specs.MarkSets.{mark_cmp, has, MarkSet, lessens, least}
 use Rattle.reg_state.specs.MarkLaws.{mark_total, mark_exact, least_least, least-union, merged_marks}
-use Rattle.reg_state.proofs.InsertLemmas.{contains-least, least_has, eq_of}
+use Rattle.reg_state.proofs.InsertLemmas.{contains-least, least_has}
+use Rattle.reg_state.proofs.FirstLemmas.{eq_of}
 use Rattle.reg_state.specs.Marks.{marks_of, marks_of_body, mark_at, target_body, op_of, least_marks}
 
 -- the marks that are set by the operations of a set
@@ -65,21 +67,13 @@ the_mark n m h = elim (or_cases (eq_by_cmp mark_cmp m n) false h) [ inl e ↦ eq
 own_mark : (m : Mark) → has (m ∷ []) m ≡ true
 own_mark m = or_left _ _ (ap is_eq (tied_itself mark_total m))
 
-and_true : (b : Bool) → (b && true) ≡ b
-and_true true = refl
-and_true false = refl
-
-and_false : (b : Bool) → (b && false) ≡ false
-and_false true = refl
-and_false false = refl
-
 lessens_at : (i j : Id) (b d : Body) (m n : Mark) → has (marks_of_body i b) m ≡ true → has (marks_of_body j d) n ≡ true → lessens m n ≡ replaces_body (is_before i j) b d
 lessens_at i j (Enter s) d m n h k = absurd (true≢false (sym h))
 lessens_at i j (Retire e) (Enter t) m n h k = absurd (true≢false (sym k))
 lessens_at i j (Supersede old newer) (Enter t) m n h k = absurd (true≢false (sym k))
 lessens_at i j (Retire e) (Retire f) m n h k = λ x. lessens (the_mark _ m h x) (the_mark _ n k x)
-lessens_at i j (Retire e) (Supersede old newer) m n h k = (λ x. lessens (the_mark _ m h x) (the_mark _ n k x)) ∙ and_true _
-lessens_at i j (Supersede old newer) (Retire e) m n h k = (λ x. lessens (the_mark _ m h x) (the_mark _ n k x)) ∙ and_false _
+lessens_at i j (Retire e) (Supersede old newer) m n h k = (λ x. lessens (the_mark _ m h x) (the_mark _ n k x)) ∙ and-true _
+lessens_at i j (Supersede old newer) (Retire e) m n h k = (λ x. lessens (the_mark _ m h x) (the_mark _ n k x)) ∙ and-false _
 lessens_at i j (Supersede old newer) (Supersede old2 newer2) m n h k = λ x. lessens (the_mark _ m h x) (the_mark _ n k x)
 
 pub lessens_replaces : (p o : Op) (m n : Mark) → sets m p ≡ true → sets n o ≡ true → lessens m n ≡ replaces p o

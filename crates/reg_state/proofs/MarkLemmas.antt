@@ -1,9 +1,7 @@
 -- The marks that operations set, and what they replace.
 use Rattle.std.proofs.Common.{◌≡◌, ℕ, Bool, true, false, ◌&&◌, ◌<◌, List, [], ◌∷◌, ◌++◌, append-nil, arith, length, refl, sym, ap, ◌∙◌, Option, None, Some, ◌||◌}
-use Rattle.std.specs.Cmp.{eq_by_cmp_equiv, tied_then}
+use Rattle.std.specs.Cmp.{tied_then}
 use Rattle.std.specs.Ordering.{is_eq, ordering_then}
-use Rattle.std.specs.declared.cmp.Ordering.{Ordering}
-use Rattle.std.specs.declared.cmp.Ordering.TheVariants.{Less, Equal, Greater}
 use Rattle.reg_op.specs.Set as set
 use Rattle.reg_op.specs.Ids.{Id}
 use Rattle.reg_op.specs.Finite.{any}
@@ -15,14 +13,15 @@ use Rattle.reg_op.specs.Ids.{id_cmp, is_same, is_before}
 use Rattle.reg_op.specs.Operations.{replaces, replaces_body}
 use Rattle.reg_op.proofs.FiniteLemmas.{list_any-or}
 use Rattle.std.proofs.lemmas.List.Folds.{list_any-append}
-use mathlib.Core.Bool.{or-false}
+use Rattle.std.proofs.Math.Bool.{and-true, and_assoc, or-false}
 use Rattle.reg_op.specs.declared.operation.OpBody.{OpBody as Body}
 use Rattle.reg_op.specs.Status.{is_retirement, is_supersession}
-use Rattle.reg_op.proofs.OpLemmas.{id_total}
 use Rattle.reg_state.specs.declared.mark.Mark.{Mark}
 use Rattle.reg_state.specs.MarkSets.{MarkSet, is_at, lessens}
-use Rattle.reg_state.proofs.OrderLemmas.{any-from_list, any-least}
+use Rattle.reg_state.proofs.OrderLemmas.{any-from_list, any-least, same_back}
 use Rattle.reg_state.proofs.MarkJoin.{own_marks}
+use Rattle.reg_state.proofs.CoverLemmas.{then_less}
+use Rattle.reg_state.proofs.InsertLemmas.{then_equal, then_greater}
 use Rattle.reg_state.specs.Marks.{marks_of, marks_of_body, least_marks, target_body, op_of}
 
 pub marks_whole : (ms : List Mark) (rest : List Op) (all : List Mark) → length rest < 1 → ms ++ marks_of rest ≡ all → ms ≡ all
@@ -33,25 +32,6 @@ marks_whole ms (x ∷ xs) all e h = absurd (omega arith)
 
 same_any : (f g : Mark → Bool) → ((m : Mark) → f m ≡ g m) → (ms : List Mark) → list_any f ms ≡ list_any g ms
 same_any f g h ms = λ i. list_any (λ m. h m i) ms
-
-then_equal : (r : Ordering) → is_eq (ordering_then r Equal) ≡ is_eq r
-then_equal Less = refl
-then_equal Equal = refl
-then_equal Greater = refl
-
-then_greater : (r : Ordering) → is_eq (ordering_then r Greater) ≡ false
-then_greater Less = refl
-then_greater Equal = refl
-then_greater Greater = refl
-
-then_less : (r : Ordering) → is_eq (ordering_then r Less) ≡ false
-then_less Less = refl
-then_less Equal = refl
-then_less Greater = refl
-
-and_assoc : (a b c : Bool) → ((a && b) && c) ≡ (a && (b && c))
-and_assoc true b c = refl
-and_assoc false b c = refl
 
 at_supersede : (e old newer : Id) (by : Option Id) (before : Bool)
     → (is_eq (ordering_then (id_cmp e old) (option_cmp id_cmp by None)) || (is_eq (ordering_then (id_cmp e old) (option_cmp id_cmp by (Some newer))) && before)) ≡ replaces_body before (target_body e by) (Supersede old newer)
@@ -78,9 +58,6 @@ replaced_supersede ms i old newer note =
     ∙ same_any _ _ (λ m. at_supersede m.target.entry old newer m.target.by (is_before m.id i)) ms
 
 -- ---- the marks of an entry
-
-same_back : (a b : Id) → is_same a b ≡ is_same b a
-same_back a b = (eq_by_cmp_equiv id_total).symm a b
 
 -- if a test on the marks of one operation agrees with a test on the operation, they agree on lists
 through : (t : Mark → Bool) (u : Op → Bool) → ((i : Id) (b : Body) (n : List ℕ) → list_any t (marks_of_body i b) ≡ u (record { id = i; body = b; note = n })) → (os : List Op) → list_any t (marks_of os) ≡ list_any u os
@@ -109,13 +86,9 @@ marks_touch e os =
     through _ (λ o. is_retirement e o.body || is_supersession e (λ n. true) o.body) (λ i b n. each i b) os
     ∙ list_any-or (λ (o : Op). is_retirement e o.body) (λ o. is_supersession e (λ n. true) o.body) os
   where
-    and_true : (b : Bool) → b ≡ (b && true)
-    and_true true = refl
-    and_true false = refl
-
     each : (i : Id) (b : Body) → list_any (λ m. is_same e m.target.entry) (marks_of_body i b) ≡ (is_retirement e b || is_supersession e (λ n. true) b)
     each i (Enter text) = refl
-    each i (Supersede old newer) = or-false _ ∙ and_true (is_same e old)
+    each i (Supersede old newer) = or-false _ ∙ sym (and-true (is_same e old))
     each i (Retire entry) = refl
 
 -- ---- tests on the least marks

@@ -1,10 +1,11 @@
 -- The merge of two sorted lists of marks.
-use Rattle.std.proofs.Common.{◌≡◌, Bool, true, false, ◌||◌, List, [], ◌∷◌, ◌++◌, length, refl, sym, ap, ◌∙◌, subst, inl, inr, ◌⊎◌, arith}
+use Rattle.std.proofs.Common.{◌≡◌, true, false, ◌||◌, List, [], ◌∷◌, ◌++◌, length, refl, sym, ap, ◌∙◌, subst, inl, inr, ◌⊎◌, arith}
 use Rattle.std.proofs.lemmas.List.Sorted.{ranks_by}
 use Rattle.std.proofs.lemmas.List.Folds.{list_any-append}
 use Rattle.std.specs.List.Sorted.{IsSorted}
 use Rattle.std.specs.Cmp.{IsStrictWeakOrder}
 use Rattle.std.proofs.lemmas.Bool.{true≢false}
+use Rattle.std.proofs.Math.Bool.{or-false, or_assoc, or_comm}
 use Rattle.std.specs.declared.cmp.Ordering.{Ordering}
 use Rattle.std.specs.declared.cmp.Ordering.TheVariants.{Less, Equal, Greater}
 use Rattle.std.specs.Ordering.{is_lt, eq_by_cmp, ordering_reverse}
@@ -13,6 +14,7 @@ use Rattle.reg_state.specs.MarkSets.{mark_cmp, has}
 use Rattle.reg_state.specs.MarkLaws.{mark_total}
 use Rattle.reg_state.proofs.OrderLemmas.{IsBy}
 use Rattle.reg_state.proofs.FirstLemmas.{AllBy, Up, sorted_up, up_sorted}
+use Rattle.reg_state.proofs.RunLemmas.{or_moved}
 
 lt_mark : IsStrictWeakOrder (λ a b. is_lt (mark_cmp a b))
 lt_mark = ranks_by mark_total (λ m. m)
@@ -66,22 +68,7 @@ pub merging : (left right : List Mark) → IsSorted mark_cmp left → IsSorted m
 merging left right h k = record { made_up = tt; left_up = sorted_up left h; right_up = sorted_up right k; left_next = tt; right_next = tt; covered = λ m. refl }
 
 has-push : (xs : List Mark) (x m : Mark) → has (xs ++ x ∷ []) m ≡ (has xs m || eq_by_cmp mark_cmp m x)
-has-push xs x m = list_any-append (eq_by_cmp mark_cmp m) xs (x ∷ []) ∙ ap (λ b. has xs m || b) (or_false (eq_by_cmp mark_cmp m x))
-  where
-    or_false : (b : Bool) → (b || false) ≡ b
-    or_false true = refl
-    or_false false = refl
-
-or_moved : (o a l r : Bool) → ((o || a) || (l || r)) ≡ (o || ((a || l) || r))
-or_moved true a l r = refl
-or_moved false true l r = refl
-or_moved false false l r = refl
-
-or_comm : (a b : Bool) → (a || b) ≡ (b || a)
-or_comm true true = refl
-or_comm true false = refl
-or_comm false true = refl
-or_comm false false = refl
+has-push xs x m = list_any-append (eq_by_cmp mark_cmp m) xs (x ∷ []) ∙ ap (λ b. has xs m || b) (or-false (eq_by_cmp mark_cmp m x))
 
 took : (made lefts rights left right : List Mark) (a b : Mark) (more bs : List Mark) → IsMerging made lefts rights left right → lefts ≡ a ∷ more → rights ≡ b ∷ bs → IsBy a b
     → IsMerging (made ++ a ∷ []) more rights left right
@@ -139,10 +126,6 @@ merged_end made new lefts rights left right is spent e =
           ∙ sym (list_any-append (eq_by_cmp mark_cmp m) left right);
     })
   where
-    or_assoc : (a b c : Bool) → ((a || b) || c) ≡ (a || (b || c))
-    or_assoc true b c = refl
-    or_assoc false b c = refl
-
     before-append : (xs ys zs : List Mark) → Before xs zs → Before ys zs → Before (xs ++ ys) zs
     before-append [] ys zs h k = k
     before-append (x ∷ xs) ys zs h k = (h.0, before-append xs ys zs h.1 k)

@@ -1,7 +1,6 @@
 -- Whether a run overlaps any run of a list is known from the first one that does not end before it.
 use Rattle.std.proofs.Common.{◌≡◌, ℕ, ◌+◌, ◌-◌, ◌<◌, ◌≤◌, zero, suc, max, min, Bool, true, false, leb, List, [], ◌∷◌, length, get_or, sym, ap, ◌∙◌, subst, inl, inr, ◌⊎◌, arith}
-use Rattle.std.proofs.lemmas.Bool.{true≢false, and_from, and_parts, or_cases, or_left, or_right, false_from_ne_true, leb-true}
-use Rattle.std.proofs.lemmas.Bool.Decides.{nat_tests}
+use Rattle.std.proofs.lemmas.Bool.{true≢false, and_from, and_parts, or_cases, or_left, or_right, false_from_ne_true, leb-true, cases_lt, le-leb}
 use Rattle.std.proofs.lemmas.List.Folds.{list_any_at}
 use Rattle.std.specs.List.{list_any}
 use Rattle.std.specs.Cmp.{both_ways}
@@ -31,10 +30,7 @@ overlap_of r s h =
 pub of_overlap : (r s : Run) → IsRun s → Overlap r s → overlap r s ≡ true
 of_overlap r s is o =
     and_from _ _ (subst (λ x. is_eq (replica_cmp r.replica x) ≡ true) o.replica (replica_itself r.replica))
-    (yes_leb (max r.low s.low) (min r.high s.high) (omega (arith, o.low, o.from, o.to, is.1)))
-  where
-    yes_leb : (m n : ℕ) → m ≤ n → leb m n ≡ true
-    yes_leb m n e = grind (arith, nat_tests)
+    (le-leb (max r.low s.low) (min r.high s.high) (omega (arith, o.low, o.from, o.to, is.1)))
 
 -- ---- a run overlaps one of a list if and only if the list has an id of it
 
@@ -109,11 +105,8 @@ meets_from r x h = false_from_ne_true _ (λ e. refuted (overlap_of r x h) (past_
 pub meets_down : (r x y : Run) → AreUpTo x y → ends (first_of r) x ≡ false → overlap r y ≡ true → overlap r x ≡ true
 meets_down r x y up late h = from up.later
   where
-    lt_or_ge : (a b : ℕ) → (a < b) ⊎ (b ≤ a)
-    lt_or_ge a b = grind arith
-
     not_past : x.replica ≡ r.replica → r.low ≤ x.high
-    not_past e = elim (lt_or_ge x.high r.low) [
+    not_past e = elim (cases_lt x.high r.low) [
       | inl l ↦ absurd (true≢false (sym (past_ends (first_of r) x (inr (e, l))) ∙ late))
       | inr g ↦ g
     ]

@@ -2,6 +2,7 @@
 use Rattle.std.proofs.Common.{◌≡◌, ℕ, Bool, true, false, not, ◌&&◌, ◌||◌, cond, List, [], ◌∷◌, ◌++◌, append_assoc, append-nil, length, refl, sym, ap, ◌∙◌, subst, inl, inr, ◌⊎◌, Some, None, arith, zero, suc, get_or, ◌<◌, ◌≤◌}
 use Rattle.std.proofs.lemmas.Bool.{true≢false, and_from, and_parts, or_left, or_right, false_from_ne_true}
 use Rattle.std.proofs.lemmas.List.Folds.{list_any-append}
+use Rattle.std.proofs.Math.Bool.{and-false, or-false, or_comm}
 use Rattle.std.specs.List.{list_any, filter, find}
 use Rattle.std.specs.Option.{option_map}
 use Rattle.std.specs.Cmp.{Equal-is, tied_itself}
@@ -123,12 +124,6 @@ push_other : (b : Bool) (out more rights : List Op) (a : Op) → ById (out ++ a 
 push_other true out more rights a h k r = subst ById (sym (append_assoc out (a ∷ []) rights)) (ById-insert out more rights a h k r)
 push_other false out more rights a h k r = subst (λ xs. ById (xs ++ rights)) (sym (append-nil out)) k
 
-or_comm : (a b : Bool) → (a || b) ≡ (b || a)
-or_comm true true = refl
-or_comm true false = refl
-or_comm false true = refl
-or_comm false false = refl
-
 moved : (o e k m r : Bool) → ((o || (e && k)) || (k && (m || r))) ≡ (o || (k && ((e || m) || r)))
 moved true e k m r = refl
 moved false true true m r = refl
@@ -245,19 +240,11 @@ and_or false true m = refl
 and_or false false m = refl
 
 pub has-filter : (f : Op → Bool) (xs : List Op) (q : Op) → has (filter f xs) q ≡ (f q && has xs q)
-has-filter f [] q = sym (and_false (f q))
-  where
-    and_false : (b : Bool) → (b && false) ≡ false
-    and_false true = refl
-    and_false false = refl
+has-filter f [] q = sym (and-false (f q))
 has-filter f (x ∷ xs) q = split (f x) ∙ (λ k. has_out_of f q x k || has-filter f xs q k) ∙ and_or (f q) (eq_by_cmp op_cmp q x) (has xs q)
   where
     split : (b : Bool) → has (cond b (x ∷ filter f xs) (filter f xs)) q ≡ (has (out_of b x) q || has (filter f xs) q)
-    split true = ap (λ b. b || has (filter f xs) q) (or_end (eq_by_cmp op_cmp q x))
-      where
-        or_end : (b : Bool) → b ≡ (b || false)
-        or_end true = refl
-        or_end false = refl
+    split true = ap (λ b. b || has (filter f xs) q) (sym (or-false (eq_by_cmp op_cmp q x)))
     split false = refl
 
 pub spent_left : (keep : Op → Bool) (out new lefts rights left right : List Op) → IsMerging keep out lefts rights left right → length lefts ≡ 0 → new ≡ out ++ filter keep rights

@@ -1,7 +1,9 @@
 -- The walk that computes the difference of two lists of runs: its steps, and its output.
-use Rattle.std.proofs.Common.{◌≡◌, ℕ, ◌+◌, ◌-◌, ◌<◌, ◌≤◌, max, Bool, true, false, not, ◌&&◌, ◌||◌, leb, List, [], ◌∷◌, ◌++◌, length, Option, Some, None, IfSome, IfNone, find, cond, refl, sym, ap, ◌∙◌, subst, inl, inr, ◌⊎◌, arith}
+use Rattle.std.proofs.Common.{◌≡◌, ℕ, ◌+◌, ◌-◌, ◌<◌, ◌≤◌, max, Bool, true, false, not, ◌&&◌, ◌||◌, leb, List, [], ◌∷◌, ◌++◌, length, Option, Some, None, IfSome, IfNone, find, cond, refl, sym, ap, ◌∙◌, subst, inl, inr, ◌⊎◌, arith, eq-or-lt_of_le}
 use Rattle.std.proofs.lemmas.Bool.{true≢false, and_from, and_parts, or_cases, or_left, or_right, false_from_ne_true}
 use Rattle.std.proofs.lemmas.Bool.Decides.{nat_tests}
+use Rattle.std.proofs.Math.Bool.{or_assoc}
+use Rattle.std.proofs.Math.Nat.{max-zero}
 use Rattle.std.specs.List.{list_any}
 use Rattle.std.specs.Ordering.{is_eq, eq_by_cmp}
 use Rattle.std.specs.Cmp.{Equal-is, tied_itself}
@@ -96,10 +98,7 @@ drop_left false b o t h = refl
 
 pub runs_from_0 : (rs : List Run) → runs_from 0 rs ≡ rs
 runs_from_0 [] = refl
-runs_from_0 (r ∷ rs) = λ k. record { replica = r.replica; low = low_0 r.low k; high = r.high } ∷ rs
-  where
-    low_0 : (n : ℕ) → max n 0 ≡ n
-    low_0 n = grind arith
+runs_from_0 (r ∷ rs) = λ k. record { replica = r.replica; low = max-zero r.low k; high = r.high } ∷ rs
 
 -- the first of a list of runs may begin at another count
 later_runs : (r s : Run) (rs : List Run) → AreRuns (r ∷ rs) → s.replica ≡ r.replica → s.high ≡ r.high → IsRun s → AreRuns (s ∷ rs)
@@ -213,15 +212,12 @@ module _ (low : ℕ) (first : Run) (others : List Run) (w : RunWalk) where
               elim (or_cases (is_in_run i (back other.low above m.begins)) (is_in_runs i others) h) [
                 | inl e ↦
                     let v = within i (back other.low above m.begins) e in
-                    elim (same_or_later other.low i.count (omega (arith, low_is, v.low))) [
+                    elim (eq-or-lt_of_le {n = other.low} {m = i.count} (omega (arith, low_is, v.low))) [
                       | inl same ↦ absurd (true≢false (sym k ∙ ap not (or_left _ _ (in_run i other (record { replica = v.replica ∙ sym m.replica; low = omega (arith, same); high = let o = other_is in omega (arith, same, o.1) })))))
                       | inr later ↦ inr (sym v.replica, omega (arith, later))
                     ]
                 | inr e ↦ elim (far_from run others i on.left_runs e) [ inl a ↦ inl a | inr b ↦ inr (b.0, let g = m.begins in omega (arith, b.1)) ]
               ]
-            where
-              same_or_later : (a b : ℕ) → a ≤ b → (a ≡ b) ⊎ (a < b)
-              same_or_later a b h = grind arith
 
       covered_front : other.low ≤ run.low → other.high < run.high → IsOn (other.high + 1) (first ∷ others) rest w
       covered_front from upto =
@@ -348,10 +344,6 @@ went_on out w new left right run is taken =
     further : (i j : Id) → IsWithin i run → IsBeyond run j → IsBelow i.replica j.replica ⊎ ((i.replica ≡ j.replica) × (i.count + 1 < j.count))
     further i j v (inl a) = inl (subst (λ q. IsBelow q j.replica) (sym v.replica) a)
     further i j v (inr b) = inr (v.replica ∙ b.0, let g = v.high in omega (arith, b.1))
-
-    or_assoc : (a b c : Bool) → ((a || b) || c) ≡ (a || (b || c))
-    or_assoc true b c = refl
-    or_assoc false b c = refl
 
 -- ---- the least id
 

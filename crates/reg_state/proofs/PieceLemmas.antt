@@ -1,7 +1,8 @@
 -- The operations outside a basis, as a list, and pieces.
 use Rattle.std.specs.Prelude.{◌↔◌}
-use Rattle.std.proofs.Common.{◌≡◌, Bool, true, false, ◌&&◌, List, Result, Ok, Err, None, refl, sym, ap, ◌∙◌, subst}
+use Rattle.std.proofs.Common.{◌≡◌, Bool, true, false, ◌&&◌, List, Result, Ok, Err, None, sym, ap, ◌∙◌, subst}
 use Rattle.std.proofs.lemmas.Bool.{and_parts, not-true}
+use Rattle.std.proofs.Math.Bool.{and_comm}
 use Rattle.std.specs.List.{filter}
 use Rattle.reg_op.specs.Set as set
 use Rattle.reg_op.specs.Set.{contains, contains-from_list, contains-retain, contains-difference, same_set}
@@ -19,18 +20,12 @@ use Rattle.reg_state.specs.Pieces.{is_outside, ops_outside, piece_of, IsBasisOf}
 use Rattle.reg_state.specs.Tables.{AreTables}
 use Rattle.reg_state.proofs.MergeLemmas.{ById-filter, has-filter}
 
-and_turn : (a b : Bool) → (a && b) ≡ (b && a)
-and_turn true true = refl
-and_turn true false = refl
-and_turn false true = refl
-and_turn false false = refl
-
 -- the set of a filtered list is the filtered set
 set_of_filter : (t : Op → Bool) (os : List Op) → set.from_list {R = op_cmp} (filter t os) ≡ set.retain (set.from_list os) t
 set_of_filter t os = same_set op_total op_exact _ _ (λ q.
     contains-from_list op_total (filter t os) q
     ∙ has-filter t os q
-    ∙ and_turn (t q) (has os q)
+    ∙ and_comm (t q) (has os q)
     ∙ (λ k. sym (contains-from_list op_total os q) k && t q)
     ∙ sym (contains-retain (set.from_list os) t q (λ x e. ap t (sym (op_exact q x e)))))
 

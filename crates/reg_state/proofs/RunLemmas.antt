@@ -1,6 +1,6 @@
 -- The ids of runs, and one more run at the end.
 use Rattle.std.proofs.Common.{◌≡◌, ℕ, ◌+◌, ◌-◌, ◌<◌, ◌≤◌, zero, suc, Bool, true, false, ◌&&◌, ◌||◌, eqb, leb, ltb, max, List, [], ◌∷◌, ◌++◌, length, refl, sym, ap, ◌∙◌, subst, inl, inr, ◌⊎◌, arith}
-use Rattle.std.proofs.lemmas.Bool.{and_from, or_left, or_right}
+use Rattle.std.proofs.lemmas.Bool.{and_from, or_left, or_right, le-leb, leb-true}
 use Rattle.std.proofs.lemmas.Bool.Decides.{nat_tests}
 use Rattle.std.proofs.lemmas.List.Folds.{list_any-append}
 use Rattle.std.specs.List.{list_any}
@@ -10,7 +10,7 @@ use Rattle.std.specs.declared.cmp.Ordering.{Ordering}
 use Rattle.std.specs.declared.cmp.Ordering.TheVariants.{Less, Equal, Greater}
 use Rattle.std.specs.Cmp.{tied_then, unsigned_tied, Equal-is, tied_itself}
 use Rattle.std.proofs.lemmas.Cmp.{nat_list_cmp_total}
-use mathlib.Core.Bool.{or-false}
+use Rattle.std.proofs.Math.Bool.{or-false, or_assoc, or_comm}
 use Rattle.reg_op.specs.Set as set
 use Rattle.reg_op.specs.Set.{contains, contains-from_list}
 use Rattle.reg_op.specs.Ids.{Id, IsId, id_cmp}
@@ -150,10 +150,6 @@ grown_end l m high top r h k =
     one_of : (a b c : ℕ) → a ≡ max b c → (a ≡ b) ⊎ (a ≡ c)
     one_of a b c h = grind arith
 
-or_assoc : (a b c : Bool) → (a || (b || c)) ≡ ((a || b) || c)
-or_assoc true b c = refl
-or_assoc false b c = refl
-
 low_by : (l m : Run) → BeginsBy l m → l.replica ≡ m.replica → l.low ≤ m.low
 low_by l m h e = elim h [ inl a ↦ absurd (not_below_same l.replica m.replica e a) | inr b ↦ b.1 ]
 
@@ -169,7 +165,7 @@ pushed_grown xs l m high top are is begins r near =
       runs = AreRuns-grown xs l grown are is_grown refl refl;
       covered = λ i. in_runs-push i xs grown
           ∙ ap (λ b. is_in_runs i xs || b) (ap (λ h. is_in_run i (record { replica = l.replica; low = l.low; high = h })) top ∙ in_run-grown i l m r low (omega arith) l_is is)
-          ∙ or_assoc (is_in_runs i xs) (is_in_run i l) (is_in_run i m)
+          ∙ sym (or_assoc (is_in_runs i xs) (is_in_run i l) (is_in_run i m))
           ∙ sym (ap (λ b. b || is_in_run i m) (in_runs-push i xs l));
       order = λ s h. AllBegin-push xs grown s (AllBegin-later xs m s parts.0 h) (begins_chain l m s parts.1 h);
       ids = λ h k. let p = EndInIds-parts xs l h in EndInIds-push xs grown p.0 (grown_end l m high top r p.1 k);
@@ -217,13 +213,7 @@ rest_begins : (new : List Run) (a : Run) (more : List Run) → AreRuns (a ∷ mo
 rest_begins new a [] h order = tt
 rest_begins new a (b ∷ bs) h order = order b (begins_apart a b h.0 h.1)
 
-or_comm : (a b : Bool) → (a || b) ≡ (b || a)
-or_comm true true = refl
-or_comm true false = refl
-or_comm false true = refl
-or_comm false false = refl
-
-or_moved : (o a l r : Bool) → ((o || a) || (l || r)) ≡ (o || ((a || l) || r))
+pub or_moved : (o a l r : Bool) → ((o || a) || (l || r)) ≡ (o || ((a || l) || r))
 or_moved true a l r = refl
 or_moved false true l r = refl
 or_moved false false l r = refl
@@ -287,14 +277,11 @@ begins_equal r s h = from (leb r.low s.low) refl
     same : r.replica ≡ s.replica
     same = bytes_exact r.replica s.replica h
 
-    low_yes : (m n : ℕ) → leb m n ≡ true → m ≤ n
-    low_yes m n e = grind (arith, nat_tests)
-
     low_no : (m n : ℕ) → leb m n ≡ false → n ≤ m
     low_no m n e = grind (arith, nat_tests)
 
     from : (b : Bool) → leb r.low s.low ≡ b → OnTrue b (BeginsBy r s) × OnFalse b (BeginsBy s r)
-    from true e = (inr (same, low_yes r.low s.low e), tt)
+    from true e = (inr (same, leb-true r.low s.low e), tt)
     from false e = (tt, inr (sym same, low_no r.low s.low e))
 
 pub below_back : (a b : List ℕ) → replica_cmp a b ≡ Greater → IsBelow b a
@@ -318,10 +305,7 @@ AreRuns-above [] m h is above = is
 AreRuns-above (x ∷ []) m h is above = (h, above (last_of x) (or_left _ _ (last_in x h)), is)
   where
     last_in : (x : Run) → IsRun x → is_in_run (last_of x) x ≡ true
-    last_in x is = and_from _ _ (replica_itself x.replica) (and_from _ _ (yes_leb x.low x.high is.1) (yes_leb x.high x.high (omega arith)))
-      where
-        yes_leb : (m n : ℕ) → m ≤ n → leb m n ≡ true
-        yes_leb m n e = grind (arith, nat_tests)
+    last_in x is = and_from _ _ (replica_itself x.replica) (and_from _ _ (le-leb x.low x.high is.1) (le-leb x.high x.high (omega arith)))
 AreRuns-above (x ∷ y ∷ ys) m h is above = (h.0, h.1, AreRuns-above (y ∷ ys) m h.2 is (λ i k. above i (or_right (is_in_run i x) _ k)))
 
 pub seen_of-push : (rs : List Run) (m : Run) → seen_of (rs ++ m ∷ []) ≡ set.union (seen_of rs) (set.from_list (ids_of_run m))

@@ -5,6 +5,7 @@ use Rattle.std.proofs.lemmas.List.Folds.{list_any-append}
 use Rattle.std.specs.List.{list_any, find}
 use Rattle.std.proofs.Common.{Result, length, arith, ◌<◌, get_or, IfSome, IfNone, is_some}
 use Rattle.std.proofs.lemmas.List.Folds.{list_any_at}
+use Rattle.std.proofs.Math.Bool.{and_comm, or-false}
 use Rattle.std.specs.Option.{option_map}
 use Rattle.std.specs.Cmp.{Equal-is, tied_itself}
 use Rattle.std.specs.Ordering.{is_eq, eq_by_cmp}
@@ -97,14 +98,10 @@ marks_replace [] q = refl
 marks_replace (o ∷ os) q =
     list_any-append (λ m. replaces (op_of m) q) (marks_of_body o.id o.body) (marks_of os) ∙ (λ k. one o.body k || marks_replace os q k)
   where
-    or_end : (b : Bool) → (b || false) ≡ b
-    or_end true = refl
-    or_end false = refl
-
     one : (b : Body) → list_any (λ m. replaces (op_of m) q) (marks_of_body o.id b) ≡ replaces (record { id = o.id; body = b; note = o.note }) q
     one (Enter e) = sym (enter_replaces e o.note q o.id)
-    one (Supersede old newer) = or_end _
-    one (Retire entry) = or_end _
+    one (Supersede old newer) = or-false _
+    one (Retire entry) = or-false _
 
 pub marked_off : (os : List Op) (ms : MarkSet) → ms ≡ least_marks os → (q : Op) → is_marked_off ms q ≡ any (λ p. replaces p q) (set.from_list {R = op_cmp} os)
 marked_off os ms marked q = any_marks (λ m. replaces (op_of m) q) (replacing_falls q) os ms marked ∙ marks_replace os q ∙ sym (any-from_list (λ p. replaces p q) os)
@@ -124,12 +121,6 @@ kept_is xs ys out ms ns left right covered =
     ∙ (λ k. not (marked_off xs ms left q k || marked_off ys ns right q k) && (sym (contains-from_list op_total xs q) k || sym (contains-from_list op_total ys q) k))
     ∙ and_comm (not (any (λ p. replaces p q) s || any (λ p. replaces p q) t)) (contains s q || contains t q)
     ∙ sym (contains-kept (union s t) q ∙ (λ k. contains_op-union s t q k && not (any-union op_total op_exact (λ p. replaces p q) s t k))))
-  where
-    and_comm : (a b : Bool) → (a && b) ≡ (b && a)
-    and_comm true true = refl
-    and_comm true false = refl
-    and_comm false true = refl
-    and_comm false false = refl
 
 pub agree_from : (xs ys : List Op) → OneBody (union (set.from_list {R = op_cmp} xs) (set.from_list {R = op_cmp} ys)) → Agree xs ys
 agree_from xs ys one p o h k e =

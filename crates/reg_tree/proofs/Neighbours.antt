@@ -131,7 +131,3 @@ pub if_agreed : {E : Type 0} (r : Result Bool E) (os : List (Bor Op)) (xs : List
     → IfOk r (λ b. OnTrue b (OneEach (ops_at os))) → IfOk r (λ b. OnTrue b (OneBody (all_ops xs)))
 if_agreed (Ok b) os xs e h = more_true b (λ each. one_body xs (subst OneEach e each)) h
 if_agreed (Err x) os xs e h = tt
-
-pub told_true : (t : Bool) {P : Type 0} → t ≡ true → OnTrue t P → P
-told_true true e h = h
-told_true false e h = absurd (true≢false (sym e))

@@ -5,7 +5,7 @@ use Rattle.wkt_tree.proofs.PlainRuns.{first_at, plain_on}
 use Rattle.wkt_canonical.specs.Ends.{IsLow, IsEndOfText}
 use Rattle.std.specs.Bool.{OnTrue}
 use Rattle.std.specs.Str.{is_utf8}
-use Rattle.std.proofs.lemmas.Bool.{cases_lt, eqb-true}
+use Rattle.std.proofs.lemmas.Bool.{cases_lt, eqb-true, leb-false}
 use Rattle.std.proofs.lemmas.List.{get_or-take, length-take-le, length-map}
 use Rattle.std.proofs.lemmas.Str.{IsUtf8-from_ascii, is_utf8-from_IsUtf8}
 use Rattle.std.proofs.lemmas.Simd.{length-chunk, tops_compared, zip2_splat_left, mask_l-mod, none_from_empty_mask}
@@ -13,9 +13,6 @@ use lib.Lanes.{chunk, zip2, mask_l, top}
 
 abbrev highs_of : List ℕ → ℕ
 highs_of lanes = mask_l (map (top 7) (zip2 (λ a b. cond (leb a b) 255 0) (replicate 16 128) lanes)) % 2 ^ 64
-
-below : (x : ℕ) → leb 128 x ≡ false → x < 128
-below x e = grind arith
 
 past_end : (xs : List ℕ) (i : ℕ) → length xs ≤ i → get_or xs i 0 < 128
 past_end [] i le = omega arith
@@ -28,7 +25,7 @@ none_high bytes at room none =
     let long = length-chunk at 16 bytes room in
     let mask = ap (λ ms. mask_l ms % 2 ^ 64) (tops_compared w8 leb (replicate 16 128) lanes ∙ zip2_splat_left leb 128 16 lanes long) ∙ mask_l-mod (map (λ x. leb 128 x) lanes) 64 (omega (arith, length-map lanes (λ x. leb 128 x), long)) in
     let low = none_from_empty_mask (λ x. leb 128 x) bytes at 16 0 room (sym mask ∙ none) in
-    λ k from to. below _ (low k from to)
+    λ k from to. leb-false 128 _ (low k from to)
 
 -- if no byte of sixteen is in the mask of bytes above 127, these bytes are ASCII
 pub all_low : (bytes : List ℕ) (at : ℕ) → at + 16 ≤ length bytes → OnTrue (eqb (highs_of (chunk at 16 bytes)) 0) (IsLow bytes at (at + 16))

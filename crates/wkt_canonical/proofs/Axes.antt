@@ -1,10 +1,12 @@
 -- Coordinate systems and their axes.
 use Rattle.std.proofs.Common.{◌≡◌, ℕ, zero, suc, ◌+◌, ◌<◌, Bool, true, false, List, [], ◌∷◌, ◌++◌, ◌∙◌, ap, sym, refl, arith, subst}
 use mathlib.Core.Bool.{beq}
-use Rattle.std.specs.Prelude.{Option, Some, None, not, ◌||◌, ◌==◌, is_some, is_none}
+use Rattle.std.specs.Prelude.{Option, Some, None, not, ◌||◌, is_some, is_none}
 use Rattle.std.specs.List.{list_all, enumerate_from}
 use Rattle.std.specs.Option.{option_map_or, option_or}
+use Rattle.std.proofs.lemmas.Bool.{eq-eqb}
 use Rattle.std.proofs.lemmas.Fmt.{decimal_digit}
+use Rattle.std.proofs.Math.Bool.{or-true}
 use Rattle.crs_part.specs.declared.units.Unit.{Unit}
 use Rattle.crs_part.specs.declared.systems.SystemKind.{SystemKind}
 use Rattle.crs_part.specs.declared.systems.Direction.{Direction}
@@ -51,13 +53,10 @@ pub order : {text inside a rest : List ℕ} (k n : ℕ) → text ≡ opening key
 order k n e digit close same =
     record {
       value = Some (record { position = n; count = omega (arith, digit.small) });
-      ordered = λ h. same_number n (k + 1) same;
+      ordered = λ h. eq-eqb n (k + 1) same;
       unordered = λ h. absurd (cc);
       is = e ∙ whole keywords.Order (count_tree n) _ (digit_is n digit) (closed close);
     }
-  where
-    same_number : (m n : ℕ) → m ≡ n → (m == n) ≡ true
-    same_number m n e = grind arith
 
 pub no_order : (k : ℕ) (text : List ℕ) → ReadsOrder k false text text
 no_order k text = record { value = None; ordered = λ h. absurd (cc); unordered = λ h. refl; is = no_run text }
@@ -116,11 +115,7 @@ stands {system} {k} {dimension} {has_order} {has_unit} {text} {rest} axis h c sm
     by false e = let f = c.fits e in let s = common_stands system axis.unit c.value k (h.without_unit e) f.0 (f.1 k small below) in record { fits = s.0; has = s.1 }
 
 either : (a b : Bool) (has : Bool) → (has ≡ false → a ≡ true) → (has ≡ true → b ≡ true) → (a || b) ≡ true
-either a b true f g = rw (g refl) (or_true a)
-  where
-    or_true : (a : Bool) → (a || true) ≡ true
-    or_true true = refl
-    or_true false = refl
+either a b true f g = rw (g refl) (or-true a)
 either a b false f g = rw (f refl) refl
 
 abbrev none_ordered : List Axis → Bool

@@ -1,8 +1,9 @@
 -- The text of each node, argument by argument.
-use Rattle.std.proofs.Common.{◌≡◌, ℕ, Bool, true, ◌&&◌, List, [], ◌∷◌, ◌++◌, ◌∙◌, refl}
+use Rattle.std.proofs.Common.{◌≡◌, ℕ, Bool, true, List, [], ◌∷◌, ◌++◌, ◌∙◌, refl}
 use Rattle.std.specs.Prelude.{Option, Some, None}
 use Rattle.std.specs.List.{list_all, flat_map}
 use Rattle.std.specs.Option.{option_map_or}
+use Rattle.std.proofs.lemmas.Bool.{and_parts, and_from}
 use Rattle.crs_part.specs.declared.units.UnitDefinition.{UnitDefinition}
 use Rattle.crs_part.specs.declared.units.Unit.{Unit}
 use Rattle.crs_part.specs.declared.units.LengthUnit.{LengthUnit}
@@ -16,7 +17,7 @@ use Rattle.wkt_grammar.specs.declared.table.Keyword.TheVariants as keywords
 use Rattle.wkt_grammar.specs.Trees.{text_tree, number_tree, ident_tree, value_tree, named_tree, unit_of_tree, unit_tree, length_unit_tree, angle_unit_tree, bounding_box_tree, vertical_extent_tree, usage_tree, ellipsoid_tree, prime_meridian_tree, accuracy_tree, datum_tree, geodetic_ensemble_tree, vertical_datum_tree, vertical_ensemble_tree, geodetic_frame_tree, vertical_frame_tree, parameter_tree, conversion_tree}
 use Rattle.wkt_canonical.specs.Reads.{ReadsFirst, ReadsOne, ReadsMaybe, ReadsEach, ReadsSome, ReadsInside, ReadsWithin, any, is_above_zero, is_not_below_zero, opening, beginning}
 use Rattle.wkt_canonical.specs.Tests.{all_positive, unit_passes, length_unit_passes, angle_unit_passes, extent_passes, usage_passes, ellipsoid_passes, datum_passes, ensemble_passes, frame_passes, prime_meridian_passes, parameter_passes, conversion_passes}
-use Rattle.wkt_canonical.proofs.Runs.{closed, also, whole, first_within, and_both}
+use Rattle.wkt_canonical.proofs.Runs.{closed, also, whole, first_within}
 
 pub value : {text a rest : List ℕ} → ReadsFirst any text_tree text a → a ≡ 93 ∷ rest → ReadsWithin any value_tree text rest
 value content close = record { value = content.value; passes = refl; is = λ k. whole k _ _ content.is (closed close) }
@@ -47,9 +48,6 @@ bounding_box south west north east close = record {
 
 -- ---- conditions on units
 
-pub and_true : (a b : Bool) → a ≡ true → b ≡ true → a && b ≡ true
-and_true a b p q = rw p q
-
 length_units_pass : (o : Option LengthUnit) → option_map_or length_unit_passes o true ≡ true → all_positive (option_map_or length_units o []) ≡ true
 length_units_pass None h = refl
 length_units_pass (Some unit) h = h
@@ -64,11 +62,11 @@ any_units_pass (Some unit) h = h
 
 pub both_pass : (xs ys : List UnitDefinition) → all_positive xs ≡ true → all_positive ys ≡ true → all_positive (xs ++ ys) ≡ true
 both_pass [] ys p q = q
-both_pass (x ∷ xs) ys p q = let b = and_both (has_positive_factor x) (all_positive xs) p in rw b.0 (both_pass xs ys b.1 q)
+both_pass (x ∷ xs) ys p q = let b = and_parts (has_positive_factor x) (all_positive xs) p in rw b.0 (both_pass xs ys b.1 q)
 
 pub all_pass : {A : Type 0} (test : A → Bool) (units : A → List UnitDefinition) → ((a : A) → test a ≡ true → all_positive (units a) ≡ true) → (vs : List A) → list_all test vs ≡ true → all_positive (flat_map units vs) ≡ true
 all_pass test units h [] p = refl
-all_pass test units h (v ∷ vs) p = let b = and_both (test v) (list_all test vs) p in both_pass (units v) (flat_map units vs) (h v b.0) (all_pass test units h vs b.1)
+all_pass test units h (v ∷ vs) p = let b = and_parts (test v) (list_all test vs) p in both_pass (units v) (flat_map units vs) (h v b.0) (all_pass test units h vs b.1)
 
 -- ---- usages
 
@@ -97,7 +95,7 @@ usage e scope area box extent close =
 pub ellipsoid : {text a b c d e rest : List ℕ} → ReadsFirst any text_tree text a → ReadsOne is_above_zero number_tree a b → ReadsOne is_not_below_zero number_tree b c → ReadsMaybe length_unit_passes length_unit_tree c d → ReadsEach any ident_tree d e → e ≡ 93 ∷ rest → ReadsInside ellipsoid_passes ellipsoid_tree keywords.Ellipsoid text rest
 ellipsoid name radius flattening unit ids close = record {
   value = record { name = name.value; radius = radius.value; flattening = flattening.value; unit = unit.value; ids = ids.values };
-  passes = and_true _ _ (and_true _ _ radius.passes flattening.passes) (length_units_pass unit.value unit.passes);
+  passes = and_from _ _ (and_from _ _ radius.passes flattening.passes) (length_units_pass unit.value unit.passes);
   is = whole keywords.Ellipsoid _ _ name.is (also _ _ radius.is (also _ _ flattening.is (also _ _ unit.is (also _ _ ids.is (closed close)))));
 }
 

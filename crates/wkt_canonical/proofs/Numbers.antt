@@ -1,5 +1,5 @@
 -- Digits, with or without a period among them, are the canonical text of a number.
-use Rattle.std.proofs.Common.{◌≡◌, ◌≢◌, ℕ, zero, suc, ◌+◌, ◌*◌, ◌/◌, ◌%◌, ◌^◌, ◌<◌, ◌≤◌, Bool, true, not, List, [], ◌∷◌, ◌++◌, length, get_or, replicate, decimal, ℤ, pos, negsuc, ◌≤ℤ◌, unsigned_abs, refl, sym, ap, ◌∙◌, ⊎_elim, arith, div-one, pow-suc, mul_comm, append_assoc, append-nil, length-append}
+use Rattle.std.proofs.Common.{◌≡◌, ◌≢◌, ℕ, zero, suc, ◌+◌, ◌*◌, ◌/◌, ◌%◌, ◌^◌, ◌<◌, ◌≤◌, true, not, List, [], ◌∷◌, ◌++◌, length, get_or, replicate, decimal, ℤ, pos, negsuc, ◌≤ℤ◌, unsigned_abs, refl, sym, ap, ◌∙◌, ⊎_elim, arith, div-one, pow-suc, mul_comm, append_assoc, append-nil, length-append, add-one}
 use Rattle.std.specs.Int.{is_positive, is_negative}
 use Rattle.std.specs.Char.{digit_value}
 use Rattle.std.specs.Str.Parse.{AllDigits, digits_value, digits_value_after}
@@ -9,16 +9,14 @@ use Rattle.std.proofs.lemmas.Bool.Decides.{nat_tests}
 use Rattle.std.proofs.lemmas.Fmt.{decimal_step_wide, decimal_digit, decimal-digits_value}
 use Rattle.std.proofs.lemmas.Int.{ints}
 use Rattle.std.proofs.lemmas.Int.Digits.{digits_value-lt}
-use Rattle.std.proofs.lemmas.List.{replicate-append-replicate}
+use Rattle.std.proofs.lemmas.List.{replicate_more}
 use Rattle.std.proofs.lemmas.Str.Parse.{numerals_by_value, tells_digits}
 use Rattle.crs_number.specs.Canonical.{last_digits, plain_text, canonical}
 use Rattle.crs_number.specs.Reading.{CutsDigits}
 use Rattle.crs_number.specs.declared.decimals.Decimal.{Decimal}
 use Rattle.crs_number.proofs.Powers.{digit_is, value_append}
-use Rattle.wkt_grammar.specs.Bare.{Bare}
 use Rattle.wkt_grammar.specs.Trees.{number_tree}
-use Rattle.wkt_grammar.specs.Render.{render}
-use Rattle.wkt_canonical.specs.Reads.{ReadsFirst, ReadsOne, any, is_above_zero, is_not_below_zero, behind}
+use Rattle.wkt_canonical.specs.Reads.{ReadsFirst, any, is_above_zero, is_not_below_zero}
 use Rattle.wkt_canonical.specs.Digits.{ReadsFraction}
 
 -- the bytes are the canonical text of a number above zero
@@ -88,9 +86,6 @@ record Zeros (limit n : ℕ) : Type 0 where
   tenless : size % 10 ≡ 0 → ⊥
   is : decimal n ≡ decimal size ++ replicate zeros 48
 
-one_more_zero : (k : ℕ) → ◌++◌ {A = ℕ} (replicate k 48) (48 ∷ []) ≡ replicate (suc k) 48
-one_more_zero k = let e : k + 1 ≡ suc k = omega arith in replicate-append-replicate {A = ℕ} k 1 48 ∙ ap (λ m. replicate m 48) e
-
 ten_times : (f n : ℕ) → n % 10 ≡ 0 → 10 ≤ n → n < 10 ^ 16 → Zeros f (n / 10) → Zeros (suc f) n
 ten_times f n z large wide r = record {
   size = r.size;
@@ -101,7 +96,7 @@ ten_times f n z large wide r = record {
   is = decimal_step_wide n large (omega (arith, wide))
       ∙ ((λ i. r.is i ++ ((48 + z i) ∷ []))
       ∙ (append_assoc (decimal r.size) (replicate r.zeros 48) (48 ∷ [])
-      ∙ ap (λ ds. decimal r.size ++ ds) (one_more_zero r.zeros)));
+      ∙ ap (λ ds. decimal r.size ++ ds) (replicate_more r.zeros 48 ∙ ap (λ k. replicate k 48) (add-one r.zeros))));
 }
 
 zeros_of : (f n : ℕ) → 0 < n → n < 10 ^ f → n < 10 ^ 16 → Zeros f n
@@ -266,12 +261,3 @@ below_zero {text} {mid} {rest} e p r =
       passes = refl;
       is = e ∙ ((λ i. p i ∷ r.is i) ∙ ap (λ l. l ++ rest) n.1);
     }
-
--- a first argument after a comma is a further argument
-pub behind_comma : {A : Type 0} {test : A → Bool} {tree : A → Bare} {text mid rest : List ℕ} → text ≡ 44 ∷ mid → ReadsFirst test tree mid rest → ReadsOne test tree text rest
-unfolding behind
-behind_comma {A} {test} {tree} {text} {mid} {rest} e r = record {
-  value = r.value;
-  passes = r.passes;
-  is = e ∙ ap (λ (l : List ℕ). 44 ∷ l) (r.is ∙ ap (λ l. l ++ rest) (sym (append-nil (render (tree r.value)))));
-}

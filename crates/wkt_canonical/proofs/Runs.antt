@@ -1,7 +1,8 @@
 -- The text of a node, run by run.
-use Rattle.std.proofs.Common.{◌≡◌, ℕ, List, [], ◌∷◌, ◌++◌, refl, sym, ap, ◌∙◌, append_assoc, append-nil, map, true, false, Bool}
+use Rattle.std.proofs.Common.{◌≡◌, ℕ, List, [], ◌∷◌, ◌++◌, refl, sym, ap, ◌∙◌, append_assoc, append-nil, map, true, Bool}
+use Rattle.std.proofs.lemmas.Bool.{and_parts}
 use Rattle.std.proofs.lemmas.List.{map-append}
-use Rattle.std.specs.Prelude.{None, Some, ◌&&◌}
+use Rattle.std.specs.Prelude.{None, Some}
 use Rattle.std.specs.List.{list_all}
 use Rattle.wkt_grammar.specs.Bare.{Bare, bares}
 use Rattle.wkt_grammar.specs.declared.table.Keyword.{Keyword}
@@ -90,13 +91,9 @@ pub none_yet : {A : Type 0} (test : A → Bool) (tree : A → Bare) (text : List
 unfolding behind
 none_yet test tree text = record { values = []; passes = refl; is = refl }
 
-pub and_both : (a b : Bool) → a && b ≡ true → (a ≡ true) × (b ≡ true)
-and_both true b h = (refl, h)
-and_both false b h = absurd (cc)
-
 passed_more : {A : Type 0} (test : A → Bool) (vs : List A) (v : A) → list_all test vs ≡ true → test v ≡ true → list_all test (vs ++ v ∷ []) ≡ true
 passed_more test [] v h p = rw p refl
-passed_more test (w ∷ vs) v h p = let b = and_both (test w) (list_all test vs) h in rw b.0 (passed_more test vs v b.1 p)
+passed_more test (w ∷ vs) v h p = let b = and_parts (test w) (list_all test vs) h in rw b.0 (passed_more test vs v b.1 p)
 
 pub one_more : {A : Type 0} (test : A → Bool) (tree : A → Bare) {text mid rest : List ℕ} → ReadsEach test tree text mid → ReadsOne test tree mid rest → ReadsEach test tree text rest
 unfolding behind

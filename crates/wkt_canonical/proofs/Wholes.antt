@@ -1,8 +1,10 @@
 -- Coordinate reference systems.
-use Rattle.std.proofs.Common.{◌≡◌, ℕ, Bool, true, false, List, [], ◌∷◌, ◌++◌, ◌∙◌, ap, sym, refl, subst, length, arith, map, append-nil}
+use Rattle.std.proofs.Common.{◌≡◌, ℕ, Bool, true, false, List, [], ◌∷◌, ◌++◌, ◌∙◌, ap, sym, refl, subst, length, map, append-nil}
 use Rattle.std.specs.Prelude.{Option, Some, None, IfSome, is_some, ◌==◌}
 use Rattle.std.specs.List.{flat_map}
 use Rattle.std.specs.Option.{option_map_or}
+use Rattle.std.proofs.lemmas.Bool.{and_parts, and_from, eq-eqb, eqb-true}
+use Rattle.std.proofs.lemmas.List.{nil_from_length}
 use Rattle.crs_part.specs.Slots.{ellipsoid_of, system_of, axes_of, common_unit_of}
 use Rattle.crs_part.specs.declared.units.Unit.{Unit}
 use Rattle.crs_part.specs.declared.datums.GeodeticFrame.{GeodeticFrame}
@@ -33,8 +35,8 @@ use Rattle.wkt_canonical.specs.declared.crs.SeenSystem.{SeenSystem}
 use Rattle.wkt_canonical.specs.declared.crs.Component.{Component}
 use Rattle.wkt_canonical.specs.Reads.{ReadsFirst, ReadsOne, ReadsMaybe, ReadsEach, ReadsInside, ReadsText, ReadsIdentifiers, ReadsSystem, ReadsAxes, ReadsSingle, ReadsEnd, ReadsWhole, IsCanonicalOf, IsCanonical, any, beginning, opening}
 use Rattle.wkt_canonical.specs.Tests.{all_positive, angle_unit_passes, usage_passes, frame_passes, prime_meridian_passes, conversion_passes, base_passes, AxesHold, Holds}
-use Rattle.wkt_canonical.proofs.Runs.{Goes, closed, also, whole, root, behind_comma_is, and_both}
-use Rattle.wkt_canonical.proofs.Nodes.{both_pass, all_pass, and_true, angle_units_pass, any_units_pass}
+use Rattle.wkt_canonical.proofs.Runs.{Goes, closed, also, whole, root, behind_comma_is}
+use Rattle.wkt_canonical.proofs.Nodes.{both_pass, all_pass, angle_units_pass, any_units_pass}
 
 pub end : {text a b c rest : List ℕ} (first : Option Identifier) → ReadsEach usage_passes usage_tree text a → ReadsIdentifiers first a b → ReadsMaybe any (value_tree keywords.Remark) b c → c ≡ 93 ∷ rest → ReadsEnd first text rest
 end first usages ids remark close =
@@ -53,11 +55,8 @@ ends e = record { is = e.is }
 
 -- ---- conditions
 
-same_number : (m n : ℕ) → m ≡ n → (m == n) ≡ true
-same_number m n e = grind arith
-
 single_holds : (s : Single) → AxesHold (system_of s).kind (system_of s).dimension (axes_of s) (common_unit_of s) → may_have_system s ≡ true → has_sizes s ≡ true → Holds s
-single_holds s a may sizes C1 = same_number _ _ a.count
+single_holds s a may sizes C1 = eq-eqb _ _ a.count
 single_holds s a may sizes C2 = may
 single_holds s a may sizes C3 = a.have_units
 single_holds s a may sizes C4 = a.have_orders
@@ -74,7 +73,7 @@ axes_of_system : {system : SystemKind} {dimension : ℕ} (s : CoordSystem) (axes
 axes_of_system {system} s axes common k d h = subst (λ k. AxesHold k s.dimension axes common) (sym k) (subst (λ d. AxesHold system d axes common) (sym d) h)
 
 frame_holds : (frame : GeodeticFrame) → frame_passes frame ≡ true → (has_size (ellipsoid_of frame) ≡ true) × (all_positive (frame_units frame) ≡ true)
-frame_holds frame h = and_both (has_size (ellipsoid_of frame)) (all_positive (frame_units frame)) h
+frame_holds frame h = and_parts (has_size (ellipsoid_of frame)) (all_positive (frame_units frame)) h
 
 -- ---- reference systems of one part
 
@@ -91,7 +90,7 @@ geodetic kind system dimension component same name datum meridian s may axes end
     let positive = both_pass (((fs ++ ms) ++ xs) ++ us) ws units end.units_pass in
     record {
       value = single.Geodetic v;
-      holds = single_holds (single.Geodetic v) (axes_of_system s.value (listed axes.value) axes.common s.kind_is s.dimension_is axes.hold) (rw s.kind_is (rw s.dimension_is may)) (and_true _ _ f.0 positive);
+      holds = single_holds (single.Geodetic v) (axes_of_system s.value (listed axes.value) axes.common s.kind_is s.dimension_is axes.hold) (rw s.kind_is (rw s.dimension_is may)) (and_from _ _ f.0 positive);
       first = rw s.kind_is (rw s.dimension_is (sym is_plane));
       second = sym second;
       seen = record { name = name.content_is ∙ sym same; identifier = end.first_is };
@@ -106,7 +105,7 @@ base kind name datum meridian unit ids close =
     let us = option_map_or angle_units unit.value [] in
     record {
       value = record { kind = kind; name = name.value; datum = datum.value; prime_meridian = meridian.value; unit = unit.value; ids = ids.values };
-      passes = and_true _ _ f.0 (both_pass (fs ++ ms) us (both_pass fs ms f.1 (prime_meridian_pass meridian.value meridian.passes)) (angle_units_pass unit.value unit.passes));
+      passes = and_from _ _ f.0 (both_pass (fs ++ ms) us (both_pass fs ms f.1 (prime_meridian_pass meridian.value meridian.passes)) (angle_units_pass unit.value unit.passes));
       is = whole (base_keyword kind) _ _ name.is (also _ _ datum.is (also _ _ meridian.is (also _ _ unit.is (also _ _ ids.is (closed close)))));
     }
 
@@ -116,7 +115,7 @@ base_came kind e r = record { value = r.value; passes = r.passes; is = e ∙ r.i
 pub projected : {content text a b c d e rest : List ℕ} (system : SystemKind) (dimension : ℕ) (component : Component) → component.seen.name.now ≡ content → ReadsText content text a → ReadsOne base_passes base_tree a b → ReadsOne conversion_passes conversion_tree b c → ReadsSystem system dimension c d → may_be_projected system dimension ≡ true → ReadsAxes system dimension d e → ReadsEnd component.seen.identifier e rest → component.may_be_first ≡ is_cartesian_plane system dimension → component.may_be_second ≡ false → ReadsSingle component (beginning keywords.ProjectedCrs ++ text) rest
 projected system dimension component same name base conversion s may axes end is_plane second =
     let v : Projected = record { name = name.value; base = base.value; conversion = conversion.value; system = s.value; axes = axes.value; unit = axes.common; usages = end.usages; ids = end.ids; remark = end.remark } in
-    let b = and_both (has_size (ellipsoid_of base.value.datum)) (all_positive (base_units base.value)) base.passes in
+    let b = and_parts (has_size (ellipsoid_of base.value.datum)) (all_positive (base_units base.value)) base.passes in
     let bs = base_units base.value in
     let cs = conversion_units conversion.value in
     let xs = flat_map axis_units (listed axes.value) in
@@ -126,7 +125,7 @@ projected system dimension component same name base conversion s may axes end is
     let positive = both_pass (((bs ++ cs) ++ xs) ++ us) ws units end.units_pass in
     record {
       value = single.Projected v;
-      holds = single_holds (single.Projected v) (axes_of_system s.value (listed axes.value) axes.common s.kind_is s.dimension_is axes.hold) (rw s.kind_is (rw s.dimension_is may)) (and_true _ _ b.0 positive);
+      holds = single_holds (single.Projected v) (axes_of_system s.value (listed axes.value) axes.common s.kind_is s.dimension_is axes.hold) (rw s.kind_is (rw s.dimension_is may)) (and_from _ _ b.0 positive);
       first = rw s.kind_is (rw s.dimension_is (sym is_plane));
       second = sym second;
       seen = record { name = name.content_is ∙ sym same; identifier = end.first_is };
@@ -195,8 +194,4 @@ is_canonical (Some seen) text r h = record { value = r.value; conditions = r.con
 is_canonical None text r h = absurd (cc)
 
 pub empty_is : (xs : List ℕ) (b : Bool) → b ≡ (length xs == 0) → b ≡ true → xs ≡ []
-empty_is [] b e h = refl
-empty_is (x ∷ xs) b e h = absurd (none (sym e ∙ h))
-  where
-    none : (length (x ∷ xs) == 0) ≡ true → ⊥
-    none h = grind arith
+empty_is xs b e h = nil_from_length xs (eqb-true (length xs) 0 (sym e ∙ h))

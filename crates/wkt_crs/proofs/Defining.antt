@@ -4,9 +4,8 @@ use Rattle.std.proofs.Math.Logic.{∥∥₁_elim}
 use Rattle.std.proofs.Math.Bridge.{le_prop}
 use Rattle.std.proofs.Props.{props}
 use mathlib.Core.HLevel.{is_prop→PathP}
-use Rattle.std.specs.Prelude.{◌⊎◌, ◌&&◌, Option, Some, None, Result, Ok, Err, IfOk, IfErr}
-use Rattle.std.specs.Cmp.Lexicographic.{pointwise}
-use Rattle.std.proofs.lemmas.Bool.{eqb-true, eq-eqb, and_parts}
+use Rattle.std.specs.Prelude.{◌⊎◌, Option, Some, None, Result, Ok, Err, IfOk, IfErr}
+use Rattle.std.specs.Cmp.Lexicographic.{pointwise, same_text, other_text}
 use Rattle.crs_part.specs.declared.text.Text.{Text}
 use Rattle.crs_part.specs.declared.identifiers.Ident.{Ident}
 use Rattle.crs_value.specs.Keys.{IsKeyOf, IsFirstKey}
@@ -82,21 +81,10 @@ defines crs key name bytes h k n =
 -- ---- bytes that are compared
 
 pub same_bytes : (a b : List ℕ) → pointwise nat_eq a b ≡ true → a ≡ b
-same_bytes [] [] h = refl
-same_bytes [] (y ∷ ys) h = absurd cc
-same_bytes (x ∷ xs) [] h = absurd cc
-same_bytes (x ∷ xs) (y ∷ ys) h =
-    let t = and_parts (nat_eq x y) (pointwise nat_eq xs ys) h in
-    let first = eqb-true x y t.0 in
-    let rest = same_bytes xs ys t.1 in
-    cc
-
-itself : (a : List ℕ) → pointwise nat_eq a a ≡ true
-itself [] = refl
-itself (x ∷ xs) = ap (λ b. b && pointwise nat_eq xs xs) (eq-eqb x x refl) ∙ itself xs
+same_bytes a b h = same_text a b (sym h)
 
 pub not_same : (a b : List ℕ) → pointwise nat_eq a b ≡ false → a ≡ b → ⊥
-not_same a b h e = let t = sym (itself a) ∙ (ap (λ l. pointwise nat_eq a l) e ∙ h) in absurd cc
+not_same a b h = other_text a b (sym h)
 
 -- ---- texts that are definitions
 

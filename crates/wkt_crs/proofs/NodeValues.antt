@@ -1,5 +1,6 @@
 -- Nodes that fit a slot have a value: one line for each slot, in the order of its row.
-use Rattle.std.proofs.Common.{◌≡◌, Option, Some, None, refl}
+use Rattle.std.proofs.Common.{◌≡◌, Option, Some, None, refl, sym}
+use Rattle.std.proofs.lemmas.Option.{same_Some}
 use Rattle.crs_part.specs.declared.units.UnitDefinition.{UnitDefinition}
 use Rattle.crs_part.specs.declared.units.Unit as units
 use Rattle.crs_part.specs.declared.units.Unit.TheVariants as unit
@@ -75,15 +76,12 @@ geoid_model_has = alone keywords.GeoidModel nodes.Named (one slots.Name text_has
 
 -- ---- units
 
-same_row : (n m : Node) → Some n ≡ Some m → m ≡ n
-same_row n m e = cc
-
 no_row : (A : Type 0) (m : Node) → ◌≡◌ {A = Option Node} None (Some m) → A
 no_row A m e = absurd cc
 
 unit_of : (K : Keyword) (m : Node) → Some nodes.Unit ≡ Some m → (x : Bare) → Entered K m x → (v : UnitDefinition) × DenotesUnitOf K x v
 unit_of K m e x h =
-    let v = node_has nodes.Unit (one slots.Name text_has >> one slots.Factor number_has >> each slots.Id ident_has >> done) K m (same_row nodes.Unit m e) x h in
+    let v = node_has nodes.Unit (one slots.Name text_has >> one slots.Factor number_has >> each slots.Id ident_has >> done) K m (sym (same_Some nodes.Unit m e)) x h in
     (record { name = v.0.0; factor = v.0.1.0; ids = v.0.1.1.0 }, v.1)
 
 unit_by : (K : Keyword) (m : Node) → enters kinds.AnyUnit K ≡ Some m → (x : Bare) → Entered K m x → (v : units.Unit) × DenotesUnit x v
@@ -154,22 +152,22 @@ accuracy_has =
 
 datum_of : (m : Node) → Some nodes.Datum ≡ Some m → (x : Bare) → Entered keywords.Datum m x → (v : Datum) × DenotesDatum x v
 datum_of m e x h =
-    let v = node_has nodes.Datum (one slots.Name text_has >> one slots.Ellipsoid ellipsoid_has >> maybe slots.Anchor anchor_has >> each slots.Id ident_has >> done) keywords.Datum m (same_row nodes.Datum m e) x h in
+    let v = node_has nodes.Datum (one slots.Name text_has >> one slots.Ellipsoid ellipsoid_has >> maybe slots.Anchor anchor_has >> each slots.Id ident_has >> done) keywords.Datum m (sym (same_Some nodes.Datum m e)) x h in
     (record { name = v.0.0; ellipsoid = v.0.1.0; anchor = v.0.1.1.0; ids = v.0.1.1.1.0 }, v.1)
 
 geodetic_ensemble_of : (m : Node) → Some nodes.GeodeticEnsemble ≡ Some m → (x : Bare) → Entered keywords.Ensemble m x → (v : GeodeticEnsemble) × DenotesGeodeticEnsemble x v
 geodetic_ensemble_of m e x h =
-    let v = node_has nodes.GeodeticEnsemble (one slots.Name text_has >> some slots.Member member_has >> one slots.Ellipsoid ellipsoid_has >> one slots.Accuracy accuracy_has >> each slots.Id ident_has >> done) keywords.Ensemble m (same_row nodes.GeodeticEnsemble m e) x h in
+    let v = node_has nodes.GeodeticEnsemble (one slots.Name text_has >> some slots.Member member_has >> one slots.Ellipsoid ellipsoid_has >> one slots.Accuracy accuracy_has >> each slots.Id ident_has >> done) keywords.Ensemble m (sym (same_Some nodes.GeodeticEnsemble m e)) x h in
     (record { name = v.0.0; members = v.0.1.0; ellipsoid = v.0.1.1.0; accuracy = v.0.1.1.1.0; ids = v.0.1.1.1.1.0 }, v.1)
 
 vertical_datum_of : (m : Node) → Some nodes.VerticalDatum ≡ Some m → (x : Bare) → Entered keywords.VerticalDatum m x → (v : VerticalDatum) × DenotesVerticalDatum x v
 vertical_datum_of m e x h =
-    let v = node_has nodes.VerticalDatum (one slots.Name text_has >> maybe slots.Anchor anchor_has >> each slots.Id ident_has >> done) keywords.VerticalDatum m (same_row nodes.VerticalDatum m e) x h in
+    let v = node_has nodes.VerticalDatum (one slots.Name text_has >> maybe slots.Anchor anchor_has >> each slots.Id ident_has >> done) keywords.VerticalDatum m (sym (same_Some nodes.VerticalDatum m e)) x h in
     (record { name = v.0.0; anchor = v.0.1.0; ids = v.0.1.1.0 }, v.1)
 
 vertical_ensemble_of : (m : Node) → Some nodes.VerticalEnsemble ≡ Some m → (x : Bare) → Entered keywords.Ensemble m x → (v : VerticalEnsemble) × DenotesVerticalEnsemble x v
 vertical_ensemble_of m e x h =
-    let v = node_has nodes.VerticalEnsemble (one slots.Name text_has >> some slots.Member member_has >> one slots.Accuracy accuracy_has >> each slots.Id ident_has >> done) keywords.Ensemble m (same_row nodes.VerticalEnsemble m e) x h in
+    let v = node_has nodes.VerticalEnsemble (one slots.Name text_has >> some slots.Member member_has >> one slots.Accuracy accuracy_has >> each slots.Id ident_has >> done) keywords.Ensemble m (sym (same_Some nodes.VerticalEnsemble m e)) x h in
     (record { name = v.0.0; members = v.0.1.0; accuracy = v.0.1.1.0; ids = v.0.1.1.1.0 }, v.1)
 
 geodetic_frame_by : (K : Keyword) (m : Node) → enters kinds.GeodeticDatum K ≡ Some m → (x : Bare) → Entered K m x → (v : GeodeticFrame) × DenotesGeodeticFrame x v
@@ -232,7 +230,7 @@ conversion_has =
 
 base_of : (kind : GeodeticKind) (m : Node) → Some nodes.BaseCrs ≡ Some m → (x : Bare) → Entered (base_keyword kind) m x → (v : BaseCrs) × DenotesBase x v
 base_of kind m e x h =
-    let v = node_has nodes.BaseCrs (one slots.Name text_has >> one slots.Datum geodetic_frame_has >> maybe slots.PrimeMeridian prime_meridian_has >> maybe slots.Unit angle_unit_has >> each slots.Id ident_has >> done) (base_keyword kind) m (same_row nodes.BaseCrs m e) x h in
+    let v = node_has nodes.BaseCrs (one slots.Name text_has >> one slots.Datum geodetic_frame_has >> maybe slots.PrimeMeridian prime_meridian_has >> maybe slots.Unit angle_unit_has >> each slots.Id ident_has >> done) (base_keyword kind) m (sym (same_Some nodes.BaseCrs m e)) x h in
     (record { kind = kind; name = v.0.0; datum = v.0.1.0; prime_meridian = v.0.1.1.0; unit = v.0.1.1.1.0; ids = v.0.1.1.1.1.0 }, v.1)
 
 base_by : (K : Keyword) (m : Node) → enters kinds.BaseCrs K ≡ Some m → (x : Bare) → Entered K m x → (v : BaseCrs) × DenotesBase x v
@@ -245,17 +243,17 @@ base_has = by_keyword kinds.BaseCrs refl base_by
 
 geodetic_of : (kind : GeodeticKind) (m : Node) → Some nodes.GeodeticCrs ≡ Some m → (x : Bare) → Entered (geodetic_keyword kind) m x → (v : Geodetic) × DenotesGeodetic x v
 geodetic_of kind m e x h =
-    let v = node_has nodes.GeodeticCrs (one slots.Name text_has >> one slots.Datum geodetic_frame_has >> maybe slots.PrimeMeridian prime_meridian_has >> one slots.Cs system_has >> some slots.Axis axis_has >> maybe slots.Unit unit_has >> each slots.Usage usage_has >> each slots.Id ident_has >> maybe slots.Remark remark_has >> done) (geodetic_keyword kind) m (same_row nodes.GeodeticCrs m e) x h in
+    let v = node_has nodes.GeodeticCrs (one slots.Name text_has >> one slots.Datum geodetic_frame_has >> maybe slots.PrimeMeridian prime_meridian_has >> one slots.Cs system_has >> some slots.Axis axis_has >> maybe slots.Unit unit_has >> each slots.Usage usage_has >> each slots.Id ident_has >> maybe slots.Remark remark_has >> done) (geodetic_keyword kind) m (sym (same_Some nodes.GeodeticCrs m e)) x h in
     (record { kind = kind; name = v.0.0; datum = v.0.1.0; prime_meridian = v.0.1.1.0; system = v.0.1.1.1.0; axes = v.0.1.1.1.1.0; unit = v.0.1.1.1.1.1.0; usages = v.0.1.1.1.1.1.1.0; ids = v.0.1.1.1.1.1.1.1.0; remark = v.0.1.1.1.1.1.1.1.1.0 }, v.1)
 
 projected_of : (m : Node) → Some nodes.ProjectedCrs ≡ Some m → (x : Bare) → Entered keywords.ProjectedCrs m x → (v : Projected) × DenotesProjected x v
 projected_of m e x h =
-    let v = node_has nodes.ProjectedCrs (one slots.Name text_has >> one slots.Base base_has >> one slots.Conversion conversion_has >> one slots.Cs system_has >> some slots.Axis axis_has >> maybe slots.Unit unit_has >> each slots.Usage usage_has >> each slots.Id ident_has >> maybe slots.Remark remark_has >> done) keywords.ProjectedCrs m (same_row nodes.ProjectedCrs m e) x h in
+    let v = node_has nodes.ProjectedCrs (one slots.Name text_has >> one slots.Base base_has >> one slots.Conversion conversion_has >> one slots.Cs system_has >> some slots.Axis axis_has >> maybe slots.Unit unit_has >> each slots.Usage usage_has >> each slots.Id ident_has >> maybe slots.Remark remark_has >> done) keywords.ProjectedCrs m (sym (same_Some nodes.ProjectedCrs m e)) x h in
     (record { name = v.0.0; base = v.0.1.0; conversion = v.0.1.1.0; system = v.0.1.1.1.0; axes = v.0.1.1.1.1.0; unit = v.0.1.1.1.1.1.0; usages = v.0.1.1.1.1.1.1.0; ids = v.0.1.1.1.1.1.1.1.0; remark = v.0.1.1.1.1.1.1.1.1.0 }, v.1)
 
 vertical_of : (m : Node) → Some nodes.VerticalCrs ≡ Some m → (x : Bare) → Entered keywords.VerticalCrs m x → (v : verticals.Vertical) × DenotesVertical x v
 vertical_of m e x h =
-    let v = node_has nodes.VerticalCrs (one slots.Name text_has >> one slots.Datum vertical_frame_has >> one slots.Cs system_has >> some slots.Axis axis_has >> maybe slots.Unit unit_has >> each slots.GeoidModel geoid_model_has >> each slots.Usage usage_has >> each slots.Id ident_has >> maybe slots.Remark remark_has >> done) keywords.VerticalCrs m (same_row nodes.VerticalCrs m e) x h in
+    let v = node_has nodes.VerticalCrs (one slots.Name text_has >> one slots.Datum vertical_frame_has >> one slots.Cs system_has >> some slots.Axis axis_has >> maybe slots.Unit unit_has >> each slots.GeoidModel geoid_model_has >> each slots.Usage usage_has >> each slots.Id ident_has >> maybe slots.Remark remark_has >> done) keywords.VerticalCrs m (sym (same_Some nodes.VerticalCrs m e)) x h in
     (record { name = v.0.0; datum = v.0.1.0; system = v.0.1.1.0; axes = v.0.1.1.1.0; unit = v.0.1.1.1.1.0; geoid_models = v.0.1.1.1.1.1.0; usages = v.0.1.1.1.1.1.1.0; ids = v.0.1.1.1.1.1.1.1.0; remark = v.0.1.1.1.1.1.1.1.1.0 }, v.1)
 
 single_by : (K : Keyword) (m : Node) → enters kinds.SingleCrs K ≡ Some m → (x : Bare) → Entered K m x → (v : Single) × DenotesSingle x v
@@ -270,7 +268,7 @@ single_has = by_keyword kinds.SingleCrs refl single_by
 
 compound_of : (m : Node) → Some nodes.CompoundCrs ≡ Some m → (x : Bare) → Entered keywords.CompoundCrs m x → (v : Compound) × DenotesCompound x v
 compound_of m e x h =
-    let v = node_has nodes.CompoundCrs (one slots.Name text_has >> one slots.First single_has >> one slots.Second single_has >> each slots.Usage usage_has >> each slots.Id ident_has >> maybe slots.Remark remark_has >> done) keywords.CompoundCrs m (same_row nodes.CompoundCrs m e) x h in
+    let v = node_has nodes.CompoundCrs (one slots.Name text_has >> one slots.First single_has >> one slots.Second single_has >> each slots.Usage usage_has >> each slots.Id ident_has >> maybe slots.Remark remark_has >> done) keywords.CompoundCrs m (sym (same_Some nodes.CompoundCrs m e)) x h in
     (record { name = v.0.0; first = v.0.1.0; second = v.0.1.1.0; usages = v.0.1.1.1.0; ids = v.0.1.1.1.1.0; remark = v.0.1.1.1.1.1.0 }, v.1)
 
 parts_by : (K : Keyword) (m : Node) → enters kinds.AnyCrs K ≡ Some m → (x : Bare) → Entered K m x → (v : CrsParts) × DenotesParts x v

@@ -1,5 +1,6 @@
 -- A text that spells a value has no fault, and a text has at most one first fault; `Memory` says nothing about the text.
 use Rattle.std.proofs.Common.{◌≡◌, ℕ, List, Option, Some, None, refl, sym, ap, ◌∙◌, subst}
+use Rattle.std.proofs.lemmas.Option.{none-some}
 use Rattle.crs_value.specs.declared.crs.Crs.{Crs}
 use Rattle.crs_value.specs.declared.broken.Broken.{Broken}
 use Rattle.crs_value.specs.declared.broken.Condition.{Condition}
@@ -20,14 +21,11 @@ use Rattle.wkt_crs.proofs.Texts.{Denoted, one_item, one_slot, no_slot_fault, of_
 of_broken : (text : List ℕ) (condition : Condition) (at : ℕ) (b : FirstBroken text condition at) → Denoted text b.value
 of_broken text condition at b = record { item = b.item; outline = b.outline; denotes = b.denotes }
 
-some_none : (o : Option Broken) (b : Broken) → o ≡ Some b → o ≡ None → ⊥
-some_none o b e f = let g = sym e ∙ f in absurd cc
-
 pub value_or_fault : (text : List ℕ) (v : Crs) (f : ReadFault) → Spells text v → FirstFault text f → f ≡ fault.Memory
 value_or_fault text v (fault.Text f) s h = absurd (fault_no text _ f h s.outline)
 value_or_fault text v (fault.Slot f) s h = absurd (no_slot_fault text v.parts f (of_spells text v s) h)
 value_or_fault text v (fault.Broken condition at) s h =
-    absurd (some_none (first_broken v.parts) _ (ap first_broken (parts_of text h.value v (of_broken text condition at h) s) ∙ h.broken) (none_broken v.parts v.conditions))
+    absurd (none-some _ (sym (none_broken v.parts v.conditions) ∙ ap first_broken (parts_of text h.value v (of_broken text condition at h) s) ∙ h.broken))
 value_or_fault text v fault.Memory s h = refl
 
 -- a text that spells a value has no fault of its tokens or slots

@@ -1,6 +1,6 @@
 -- The parts of an explanation make up the explanation.
-use Rattle.std.proofs.Common.{◌≡◌, ℕ, zero, suc, ◌+◌, List, [], ◌∷◌, length, take, drop, min, ap, ◌∙◌, arith}
-use Rattle.std.proofs.lemmas.List.{take_min}
+use Rattle.std.proofs.Common.{◌≡◌, ℕ, ◌+◌, List, length, take, drop, min, ap, ◌∙◌}
+use Rattle.std.proofs.lemmas.List.{take_min, drop_min}
 use Rattle.wkt_crs.specs.declared.definition.DefinitionFault.{DefinitionFault}
 use Rattle.wkt_explain.specs.declared.walk.Spot.{Spot}
 use Rattle.wkt_explain.specs.Characters.{chars}
@@ -9,11 +9,6 @@ use Rattle.wkt_explain.specs.Path.{path_at}
 use Rattle.wkt_explain.specs.Shown.{shown_lines}
 use Rattle.wkt_explain.specs.Walk.{IsSpot}
 use Rattle.wkt_explain.specs.Explains.{explanation, explained, said, told_at}
-
-drop_min : (n : ℕ) (xs : List ℕ) → drop (min n (length xs)) xs ≡ drop n xs
-drop_min zero xs = ap (λ k. drop k xs) (let e : min 0 (length xs) ≡ 0 = omega arith in e)
-drop_min (suc n) [] = ap (λ k. drop {A = ℕ} k []) (let e : min (suc n) 0 ≡ 0 = omega arith in e)
-drop_min (suc n) (x ∷ xs) = ap (λ k. drop k (x ∷ xs)) (let e : min (suc n) (suc (length xs)) ≡ suc (min n (length xs)) = omega arith in e) ∙ drop_min n xs
 
 spot_explained : (name file text : List ℕ) (at to : ℕ) (path : List (List ℕ)) (f : DefinitionFault) (spot : Spot) (place : ℕ)
     → path ≡ path_at (take at text) → place ≡ min to (length file) → IsSpot spot (behind_mark (take place file)) (drop place file)

@@ -1,49 +1,32 @@
 -- The first characters of a prefix of some bytes are those of the bytes.
 use Rattle.std.proofs.Common.{◌≡◌, ℕ, zero, suc, ◌+◌, ◌-◌, ◌*◌, ◌<◌, ◌≤◌, Bool, true, false, cond, List, [], ◌∷◌, ◌++◌, length, take, drop, min, nat_le, nat_lt, refl, ap, sym, ◌∙◌, arith, append_assoc, length-drop}
 use Rattle.std.specs.Str.{is_utf8}
-use Rattle.std.proofs.lemmas.Bool.Decides.{nat_tests}
-use Rattle.std.proofs.lemmas.List.{length-take, drop-take, length-append}
+use Rattle.std.proofs.lemmas.List.{length-take, drop-take, length-append, take-take, take_all}
 use Rattle.std.proofs.Math.Nat.{min-le_left, min-le_right, le-min}
 use Rattle.std.proofs.Math.Seq.{take-add}
-use Rattle.std.proofs.lemmas.Bool.{and_parts, and_from}
+use Rattle.std.proofs.lemmas.Bool.{and_parts, and_from, leb-true, le-leb}
 use Rattle.wkt_explain.specs.Characters.{is_wide, first_len, chars}
 use Rattle.wkt_explain.specs.Walk.{AreWhole}
 use Rattle.wkt_explain.proofs.CharLemmas.{chars-nil, chars-split, first_len-bounds}
 
-pub front_of_front : {X : Type 0} (k n : ℕ) (xs : List X) → k ≤ n → take k (take n xs) ≡ take k xs
-front_of_front zero n xs le = refl
-front_of_front (suc k) zero xs le = absurd (omega arith)
-front_of_front (suc k) (suc n) [] le = refl
-front_of_front {X} (suc k) (suc n) (x ∷ xs) le = ap (λ (ys : List X). x ∷ ys) (front_of_front k n xs (omega arith))
-
-nothing_taken : (n : ℕ) → take {A = ℕ} n [] ≡ []
-nothing_taken zero = refl
-nothing_taken (suc n) = refl
-
 -- ---- the length of the first character
-
-is_le : (n m : ℕ) → nat_le n m ≡ true → n ≤ m
-is_le n m h = grind (arith, nat_tests)
-
-le_is : (n m : ℕ) → n ≤ m → nat_le n m ≡ true
-le_is n m h = grind (arith, nat_tests)
 
 wide_front : (k n : ℕ) (bytes : List ℕ) → is_wide k bytes ≡ true → k ≤ n → is_wide k (take n bytes) ≡ true
 wide_front k n bytes h le =
     let parts = and_parts (nat_le k (length bytes)) (is_utf8 (take k bytes)) h in
     and_from (nat_le k (length (take n bytes))) (is_utf8 (take k (take n bytes)))
-    (ap (nat_le k) (length-take n bytes) ∙ le_is k (min n (length bytes)) (le-min le (is_le k (length bytes) parts.0)))
-    (ap is_utf8 (front_of_front k n bytes le) ∙ parts.1)
+    (ap (nat_le k) (length-take n bytes) ∙ le-leb k (min n (length bytes)) (le-min le (leb-true k (length bytes) parts.0)))
+    (ap is_utf8 (take-take k n bytes le) ∙ parts.1)
 
 wide_back : (k n : ℕ) (bytes : List ℕ) → is_wide k (take n bytes) ≡ true → is_wide k bytes ≡ true
 wide_back k n bytes h =
     let parts = and_parts (nat_le k (length (take n bytes))) (is_utf8 (take k (take n bytes))) h in
-    let le : k ≤ min n (length bytes) = is_le k (min n (length bytes)) (ap (nat_le k) (sym (length-take n bytes)) ∙ parts.0) in
+    let le : k ≤ min n (length bytes) = leb-true k (min n (length bytes)) (ap (nat_le k) (sym (length-take n bytes)) ∙ parts.0) in
     let left : min n (length bytes) ≤ n = min-le_left n (length bytes) in
     let right : min n (length bytes) ≤ length bytes = min-le_right n (length bytes) in
     and_from (nat_le k (length bytes)) (is_utf8 (take k bytes))
-    (le_is k (length bytes) (omega arith))
-    (ap is_utf8 (sym (front_of_front k n bytes (omega arith))) ∙ parts.1)
+    (le-leb k (length bytes) (omega arith))
+    (ap is_utf8 (sym (take-take k n bytes (omega arith))) ∙ parts.1)
 
 wide_only : (k n : ℕ) (bytes : List ℕ) → is_wide k bytes ≡ false → is_wide k (take n bytes) ≡ false
 wide_only k n bytes h = elim (is_wide k (take n bytes)) as (λ b. is_wide k (take n bytes) ≡ b → b ≡ false) [
@@ -110,13 +93,13 @@ front_split bytes k m some e le =
     let same : first_len (take m bytes) ≡ k = first_len-front bytes m some fits ∙ sym e in
     chars-split (take m bytes) (some_left m bytes some (omega (arith, bounds.0, fits)))
     ∙ ap (λ n. take n (take m bytes) ∷ chars (drop n (take m bytes))) same
-    ∙ ap (λ c. c ∷ chars (drop k (take m bytes))) (front_of_front k m bytes le)
+    ∙ ap (λ c. c ∷ chars (drop k (take m bytes))) (take-take k m bytes le)
     ∙ ap (λ x. take k bytes ∷ chars x) (back_of_front k m bytes le)
 
 -- a prefix of 4 n bytes or more has the same first n characters
 pub first_chars_of_front : (n m : ℕ) (bytes : List ℕ) → 4 * n ≤ m → take n (chars (take m bytes)) ≡ take n (chars bytes)
 first_chars_of_front zero m bytes le = refl
-first_chars_of_front (suc n) m [] le = ap (λ x. take (suc n) (chars x)) (nothing_taken m)
+first_chars_of_front (suc n) m [] le = ap (λ x. take (suc n) (chars x)) (take_all m [] (omega arith))
 first_chars_of_front (suc n) m (b ∷ bs) le =
     let k = first_len (b ∷ bs) in
     let small : k ≤ 4 = first_len-small (b ∷ bs) in

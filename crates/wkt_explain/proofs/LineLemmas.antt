@@ -1,5 +1,5 @@
 -- The last line of some bytes, and how it grows.
-use Rattle.std.proofs.Common.{◌≡◌, ℕ, suc, ◌+◌, ◌-◌, ◌<◌, ◌≤◌, Bool, true, false, not, ◌==◌, ◌&&◌, cond, List, [], ◌∷◌, ◌++◌, length, take, drop, reverse, refl, ap, sym, ◌∙◌, arith, append_assoc, length-drop}
+use Rattle.std.proofs.Common.{◌≡◌, ℕ, ◌+◌, ◌-◌, ◌<◌, ◌≤◌, Bool, true, false, not, ◌==◌, ◌&&◌, cond, List, [], ◌∷◌, ◌++◌, length, take, drop, reverse, refl, ap, sym, ◌∙◌, arith, append_assoc, length-drop, one-add}
 use Rattle.std.specs.List.{list_all, prefix_len, suffix_len}
 use Rattle.std.proofs.lemmas.List.{append-nil, drop_all, reverse-append, reverse-reverse, length-reverse, length-append, drop-append-le, take-append-drop, take_at, drop_at}
 use Rattle.std.proofs.lemmas.List.Sums.{suffix_len-le-length, sum_by-append}
@@ -18,20 +18,17 @@ all_reversed p (x ∷ xs) h =
     ∙ ap (λ b. b && (p x && true)) (all_reversed p xs parts.1)
     ∙ ap (λ b. b && true) parts.0
 
-next : (n : ℕ) → 1 + n ≡ suc n
-next n = omega arith
-
 front_passes : (p : ℕ → Bool) (xs : List ℕ) → list_all p (take (prefix_len p xs) xs) ≡ true
 front_passes p [] = refl
 front_passes p (x ∷ xs) = elim (p x) as (λ b. p x ≡ b → list_all p (take (cond b (1 + prefix_len p xs) 0) (x ∷ xs)) ≡ true) [
-  | true ↦ λ e. ap (λ n. list_all p (take n (x ∷ xs))) (next (prefix_len p xs)) ∙ ap (λ b. b && list_all p (take (prefix_len p xs) xs)) e ∙ front_passes p xs
+  | true ↦ λ e. ap (λ n. list_all p (take n (x ∷ xs))) (one-add (prefix_len p xs)) ∙ ap (λ b. b && list_all p (take (prefix_len p xs) xs)) e ∙ front_passes p xs
   | false ↦ λ e. refl
 ] refl
 
 none_behind : (p : ℕ → Bool) (xs : List ℕ) → prefix_len p (drop (prefix_len p xs) xs) ≡ 0
 none_behind p [] = refl
 none_behind p (x ∷ xs) = elim (p x) as (λ b. p x ≡ b → prefix_len p (drop (cond b (1 + prefix_len p xs) 0) (x ∷ xs)) ≡ 0) [
-  | true ↦ λ e. ap (λ n. prefix_len p (drop n (x ∷ xs))) (next (prefix_len p xs)) ∙ none_behind p xs
+  | true ↦ λ e. ap (λ n. prefix_len p (drop n (x ∷ xs))) (one-add (prefix_len p xs)) ∙ none_behind p xs
   | false ↦ λ e. ap (λ b. cond b (1 + prefix_len p xs) 0) e
 ] refl
 

@@ -1,10 +1,10 @@
 -- Places behind a byte order mark at the front of a file.
-use Rattle.std.proofs.Common.{◌≡◌, ℕ, zero, suc, ◌+◌, ◌-◌, ◌≤◌, ◌<◌, Bool, true, false, ◌&&◌, nat_eq, cond, List, [], ◌∷◌, length, take, drop, refl, ap, sym, subst, ◌∙◌, arith}
-use Rattle.std.proofs.lemmas.List.{drop-take, length-take}
+use Rattle.std.proofs.Common.{◌≡◌, ℕ, zero, suc, ◌+◌, ◌-◌, ◌≤◌, ◌<◌, true, false, ◌&&◌, nat_eq, cond, List, [], ◌∷◌, length, take, drop, refl, ap, sym, subst, ◌∙◌, arith}
+use Rattle.std.proofs.lemmas.List.{drop-take, length-take, drop-drop}
+use Rattle.std.proofs.Math.Bool.{and-false}
 use Rattle.wkt_explain.specs.Position.{begins_mark, behind_mark}
 use Rattle.wkt_explain.specs.declared.walk.Spot.{Spot}
 use Rattle.wkt_explain.specs.Walk.{IsSpot}
-use Rattle.wkt_explain.proofs.WalkLemmas.{drop_more}
 
 pub kept : (bytes : List ℕ) → begins_mark bytes ≡ false → behind_mark bytes ≡ bytes
 kept bytes h = ap (λ b. cond b (drop 3 bytes) bytes) h
@@ -12,14 +12,10 @@ kept bytes h = ap (λ b. cond b (drop 3 bytes) bytes) h
 pub cut : (bytes : List ℕ) → begins_mark bytes ≡ true → behind_mark bytes ≡ drop 3 bytes
 cut bytes h = ap (λ b. cond b (drop 3 bytes) bytes) h
 
-neither : (a : Bool) → (a && false) ≡ false
-neither true = refl
-neither false = refl
-
 few : (bytes : List ℕ) → length bytes < 3 → begins_mark bytes ≡ false
 few [] h = refl
-few (a ∷ []) h = neither (nat_eq 239 a)
-few (a ∷ b ∷ []) h = ap (λ x. nat_eq 239 a && x) (neither (nat_eq 187 b)) ∙ neither (nat_eq 239 a)
+few (a ∷ []) h = and-false (nat_eq 239 a)
+few (a ∷ b ∷ []) h = ap (λ x. nat_eq 239 a && x) (and-false (nat_eq 187 b)) ∙ and-false (nat_eq 239 a)
 few (a ∷ b ∷ c ∷ bytes) h = absurd (omega (arith, h))
 
 far_front : (n : ℕ) (file : List ℕ) → begins_mark (take (suc (suc (suc n))) file) ≡ begins_mark file
@@ -54,7 +50,7 @@ front_cut place file h le =
 rest_cut : (place : ℕ) (file : List ℕ) → begins_mark file ≡ true → 3 ≤ place → drop place file ≡ drop (place - 3) (behind_mark file)
 rest_cut place file h le =
     let whole : 3 + (place - 3) ≡ place = omega arith in
-    ap (λ n. drop n file) (sym whole) ∙ drop_more 3 (place - 3) file ∙ ap (drop (place - 3)) (sym (cut file h))
+    ap (λ n. drop n file) (sym whole) ∙ sym (drop-drop (place - 3) 3 file) ∙ ap (drop (place - 3)) (sym (cut file h))
 
 -- ---- the spot of a place of the file, by that of a place in the walk
 

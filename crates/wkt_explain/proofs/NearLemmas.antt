@@ -1,7 +1,8 @@
 -- The part of a line that is shown does not depend on what is far from the place.
-use Rattle.std.proofs.Common.{◌≡◌, ◌⊎◌, inl, inr, ℕ, zero, suc, ◌+◌, ◌-◌, ◌≤◌, true, false, cond, List, [], ◌∷◌, ◌++◌, length, take, drop, min, max, refl, ap, sym, ◌∙◌, arith}
+use Rattle.std.proofs.Common.{◌≡◌, ◌⊎◌, inl, inr, ℕ, zero, suc, ◌+◌, ◌-◌, ◌≤◌, true, false, cond, List, [], ◌∷◌, ◌++◌, length, take, drop, min, max, refl, ap, sym, ◌∙◌, arith, one-add}
 use Rattle.std.specs.List.{prefix_len}
-use Rattle.std.proofs.lemmas.List.{length-append, length-take}
+use Rattle.std.proofs.lemmas.List.{length-append, length-take, take-take}
+use Rattle.std.proofs.Math.Nat.{min_comm}
 use Rattle.std.proofs.Math.Seq.{drop-append-add}
 use Rattle.wkt_explain.specs.Characters.{chars}
 use Rattle.wkt_explain.specs.Position.{goes_on, first_line, last_line, without_return, line_number, column, feeds, text_in}
@@ -9,7 +10,7 @@ use Rattle.wkt_explain.specs.Shown
 use Rattle.wkt_explain.specs.Shown.{shown, around, shown_lines}
 use Rattle.wkt_explain.specs.Walk.{AreWhole, IsInLine, IsFar}
 use Rattle.wkt_explain.proofs.LineLemmas.{line_grows, feeds-append, no_feeds}
-use Rattle.wkt_explain.proofs.FrontLemmas.{front_of_front, first_chars_of_front, many_chars}
+use Rattle.wkt_explain.proofs.FrontLemmas.{first_chars_of_front, many_chars}
 use Rattle.wkt_explain.proofs.WalkLemmas.{between_is, between_len, up_to}
 
 -- ---- from the place on
@@ -21,14 +22,11 @@ first_line-front (suc n) [] = refl
 first_line-front (suc n) (x ∷ xs) = elim (goes_on x) as (λ b. goes_on x ≡ b
     → take (cond b (1 + prefix_len goes_on (take n xs)) 0) (x ∷ take n xs) ≡ take (suc n) (take (cond b (1 + prefix_len goes_on xs) 0) (x ∷ xs))) [
       | true ↦ λ e.
-          ap (λ k. take k (x ∷ take n xs)) (next (prefix_len goes_on (take n xs)))
+          ap (λ k. take k (x ∷ take n xs)) (one-add (prefix_len goes_on (take n xs)))
           ∙ ap (λ (l : List ℕ). x ∷ l) (first_line-front n xs)
-          ∙ sym (ap (λ k. take (suc n) (take k (x ∷ xs))) (next (prefix_len goes_on xs)))
+          ∙ sym (ap (λ k. take (suc n) (take k (x ∷ xs))) (one-add (prefix_len goes_on xs)))
       | false ↦ λ e. refl
     ] refl
-  where
-    next : (n : ℕ) → 1 + n ≡ suc n
-    next n = omega arith
 
 -- a carriage return far behind the front makes no difference at the front
 return_far : (n : ℕ) (xs : List ℕ) → take n (without_return (take (suc n) xs)) ≡ take n (without_return xs)
@@ -40,14 +38,11 @@ return_far (suc n) (x ∷ y ∷ ys) = ap (λ (l : List ℕ). x ∷ l) (return_fa
 
 ahead_shown : (before xs ys : List (List ℕ)) → take 80 xs ≡ take 80 ys → shown_lines before xs ≡ shown_lines before ys
 ahead_shown before xs ys e =
-    let alike : (k : ℕ) → k ≤ 80 → take k xs ≡ take k ys = λ k le. sym (front_of_front k 80 xs le) ∙ ap (take k) e ∙ front_of_front k 80 ys le in
-    let count : min (length xs) 40 ≡ min (length ys) 40 = swap (length xs) 40 ∙ sym (length-take 40 xs) ∙ ap length (alike 40 (omega arith)) ∙ length-take 40 ys ∙ swap 40 (length ys) in
+    let alike : (k : ℕ) → k ≤ 80 → take k xs ≡ take k ys = λ k le. sym (take-take k 80 xs le) ∙ ap (take k) e ∙ take-take k 80 ys le in
+    let count : min (length xs) 40 ≡ min (length ys) 40 = min_comm (length xs) 40 ∙ sym (length-take 40 xs) ∙ ap length (alike 40 (omega arith)) ∙ length-take 40 ys ∙ min_comm 40 (length ys) in
     let n = min (length before) (80 - max (min (length ys) 40) 1) in
     ap (λ m. around (min (length before) (80 - max m 1)) before xs) count
     ∙ ap (λ ahead. shown (drop (length before - n) before) ++ shown ahead ++ 10 ∷ [] ++ Shown.blanks n ++ 94 ∷ 10 ∷ []) (alike (80 - n) (omega arith))
-  where
-    swap : (a b : ℕ) → min a b ≡ min b a
-    swap a b = omega arith
 
 -- ---- before the place
 

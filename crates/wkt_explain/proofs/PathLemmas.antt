@@ -1,5 +1,5 @@
 -- The state after the bytes of tokens are read.
-use Rattle.std.proofs.Common.{◌≡◌, ℕ, suc, ◌-◌, ◌<◌, ◌==◌, ◌||◌, Bool, true, false, cond, Some, List, [], ◌∷◌, ◌++◌, length, refl, ap, sym, ◌∙◌, subst, arith, append_assoc, ◌⊎◌, inl, inr, filter}
+use Rattle.std.proofs.Common.{◌≡◌, ℕ, suc, ◌-◌, ◌<◌, ◌==◌, ◌||◌, Bool, true, false, cond, Some, List, [], ◌∷◌, ◌++◌, length, refl, ap, sym, ◌∙◌, subst, arith, append_assoc, ◌⊎◌, inl, inr, filter, append-nil}
 use Rattle.std.specs.List.{AllPass, flat_map}
 use Rattle.std.specs.Char.{is_ascii_alphabetic}
 use Rattle.std.proofs.lemmas.Bool.Decides.{nat_tests}
@@ -51,11 +51,7 @@ blanks_pass (b ∷ bs) more w v o h =
     (r.0, λ e. r.1 refl, ap (λ p. reads_on (outside p b (out w v o)) (bs ++ more)) (blank_piece b (head is_blank b bs h)) ∙ r.2)
 
 word_goes_on : (bs more v : List ℕ) (o : List (List ℕ)) → AllPass is_word_byte bs → reads_on (out false v o) (bs ++ more) ≡ reads_on (out false (v ++ bs) o) more
-word_goes_on [] more v o h = ap (λ x. reads_on (out false x o) more) (sym (append_nil v))
-  where
-    append_nil : (xs : List ℕ) → xs ++ [] ≡ xs
-    append_nil [] = refl
-    append_nil (x ∷ xs) = ap (λ (ys : List ℕ). x ∷ ys) (append_nil xs)
+word_goes_on [] more v o h = ap (λ x. reads_on (out false x o) more) (sym (append-nil v))
 word_goes_on (b ∷ bs) more v o h =
     ap (λ p. reads_on (outside p b (out false v o)) (bs ++ more)) (word_piece b (head is_word_byte b bs h))
     ∙ word_goes_on bs more (v ++ b ∷ []) o (tail is_word_byte b bs h)
@@ -226,15 +222,11 @@ front_linked : (ts others : List Tok) (k : TokenKind) → Linked k (ts ++ others
 front_linked [] others k h = tt
 front_linked (t ∷ ts) others k h = (h.0, front_linked ts others t.kind h.1)
 
-no_more : {X : Type 0} (xs : List X) → xs ++ [] ≡ xs
-no_more [] = refl
-no_more {X} (x ∷ xs) = ap (λ (ys : List X). x ∷ ys) (no_more xs)
-
 begun_linked : (n : ℕ) (ts : List Tok) → Begins n ts → Linked Comma ts
 begun_linked n ts b =
     let t = b.tree in
     let i = node t.keyword t.delimiter t.opening t.items t.closing in
-    front_linked ts b.others Comma (subst (λ l. Linked Comma l) (no_more (tokens i) ∙ sym t.spelled) (tree_linked i Comma [] tt (λ j. tt)))
+    front_linked ts b.others Comma (subst (λ l. Linked Comma l) (append-nil (tokens i) ∙ sym t.spelled) (tree_linked i Comma [] tt (λ j. tt)))
 
 -- ---- lists of tokens
 
@@ -308,5 +300,5 @@ pub path_is : (text : List ℕ) (ts : List Tok) (n : ℕ) → Cut 0 text ts → 
 path_is text ts n cut begins =
     let r = runs ts Comma 0 text cut.place' cut.rest true [] [] [] cut.front (begun_linked n ts begins) refl (All-nil (λ (x : List ℕ). is_named x ≡ true)) in
     let b = blanks_pass cut.rest [] r.full r.last (opened_by_all ts) cut.blank in
-    let e : reads_on fresh text ≡ out b.0 r.last (opened_by_all ts) = r.reads ∙ ap (λ x. reads_on (out r.full r.last (opened_by_all ts)) x) (sym (no_more cut.rest)) ∙ b.2 in
+    let e : reads_on fresh text ≡ out b.0 r.last (opened_by_all ts) = r.reads ∙ ap (λ x. reads_on (out r.full r.last (opened_by_all ts)) x) (sym (append-nil cut.rest)) ∙ b.2 in
     ap (λ q. filter is_named q.opened) e ∙ filter_all (opened_by_all ts) r.named

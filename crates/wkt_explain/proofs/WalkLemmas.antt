@@ -1,8 +1,8 @@
 -- Steps of a walk through a file.
-use Rattle.std.proofs.Common.{◌≡◌, ℕ, zero, suc, ◌+◌, ◌-◌, ◌<◌, ◌≤◌, Bool, true, false, ◌==◌, List, [], ◌∷◌, ◌++◌, length, take, drop, refl, ap, sym, ◌∙◌, arith, length-drop}
+use Rattle.std.proofs.Common.{◌≡◌, ℕ, ◌+◌, ◌-◌, ◌<◌, ◌≤◌, Bool, true, false, ◌==◌, List, [], ◌++◌, length, take, drop, ap, sym, ◌∙◌, arith, length-drop}
 use Rattle.std.specs.List.{list_all, suffix_len}
 use Rattle.std.proofs.lemmas.Bool.Decides.{nat_tests}
-use Rattle.std.proofs.lemmas.List.{take-append-drop, drop-take, length-take-le}
+use Rattle.std.proofs.lemmas.List.{take-append-drop, drop-take, length-take-le, take-take, drop-drop}
 use Rattle.std.proofs.lemmas.List.Folds.{list_all-append}
 use Rattle.std.proofs.Math.Seq.{take-add}
 use Rattle.std.proofs.lemmas.Bool.{and_parts}
@@ -11,7 +11,7 @@ use Rattle.wkt_explain.specs.Position.{goes_on, last_line, line_number, feeds, t
 use Rattle.wkt_explain.specs.Walk.{AreWhole, IsInLine}
 use Rattle.wkt_explain.proofs.CharLemmas.{chars-nil, first_len-bounds}
 use Rattle.wkt_explain.proofs.LineLemmas.{last_line-goes_on, lines_end, line_grows, feeds-append, no_feeds}
-use Rattle.wkt_explain.proofs.FrontLemmas.{first_len-small, front_of_front, one_more_whole, none_whole}
+use Rattle.wkt_explain.proofs.FrontLemmas.{first_len-small, one_more_whole, none_whole}
 
 -- ---- the bytes between two places
 
@@ -26,22 +26,13 @@ up_to file at place le =
 pub between_len : (file : List ℕ) (at place : ℕ) → at ≤ place → place ≤ length file → length (text_in file at place) ≡ place - at
 between_len file at place le within = length-drop at (take place file) ∙ ap (λ n. n - at) (length-take-le place file within)
 
-pub drop_more : (n m : ℕ) (xs : List ℕ) → drop (n + m) xs ≡ drop m (drop n xs)
-drop_more zero m xs = ap (λ k. drop k xs) (let e : 0 + m ≡ m = omega arith in e)
-drop_more (suc n) m [] = ap (λ k. drop {A = ℕ} k []) (let e : suc n + m ≡ suc (n + m) = omega arith in e) ∙ sym (nothing m)
-  where
-    nothing : (m : ℕ) → drop {A = ℕ} m [] ≡ []
-    nothing zero = refl
-    nothing (suc m) = refl
-drop_more (suc n) m (x ∷ xs) = ap (λ k. drop k (x ∷ xs)) (let e : suc n + m ≡ suc (n + m) = omega arith in e) ∙ drop_more n m xs
-
 pub between_behind : (file : List ℕ) (at n place : ℕ) → text_in file (at + n) place ≡ drop n (text_in file at place)
-between_behind file at n place = drop_more at n (take place file)
+between_behind file at n place = sym (drop-drop n at (take place file))
 
 -- the bytes up to n after a place are those before it and the first n between the two places
 begun : (file : List ℕ) (at place n : ℕ) → at ≤ place → n ≤ place - at → take (at + n) file ≡ take at file ++ take n (text_in file at place)
 begun file at place n le fits =
-    take-add at n file ∙ ap (λ x. take at file ++ x) (sym (front_of_front n (place - at) (drop at file) fits) ∙ ap (take n) (sym (between_is file at place le)))
+    take-add at n file ∙ ap (λ x. take at file ++ x) (sym (take-take n (place - at) (drop at file) fits) ∙ ap (take n) (sym (between_is file at place le)))
 
 -- ---- lines
 
@@ -109,7 +100,7 @@ char_stepped file at place k inside ahead within e =
     let grown : take (at + k) file ≡ take at file ++ take k b = begun file at place k inside.0 (omega (arith, e, small)) in
     let all : feeds (take (at + k) file) ≡ feeds (take at file) + feeds (take k b) = ap feeds grown ∙ feeds-append (take at file) (take k b) in
     let none : feeds (take k b) ≡ 0 = no_feeds (take k b) parts.0 in
-    let front : take k b ≡ take k (drop at file) = ap (take k) (between_is file at place inside.0) ∙ front_of_front k (place - at) (drop at file) (omega (arith, e, small)) in
+    let front : take k b ≡ take k (drop at file) = ap (take k) (between_is file at place inside.0) ∙ take-take k (place - at) (drop at file) (omega (arith, e, small)) in
     record {
       some = omega (arith, e, bounds.0);
       most = omega (arith, e, small);
@@ -131,9 +122,9 @@ pub char_whole : (file : List ℕ) (at place k : ℕ) → Stepped file at place 
 char_whole file at place k s some e whole n =
     let more = one_more_whole (last_line (take at file)) (drop at file) k whole some e in
     ap (λ l. chars (l ++ take n (drop (at + k) file))) s.last
-    ∙ ap (λ r. chars ((last_line (take at file) ++ take k (drop at file)) ++ take n r)) (drop_more at k file)
+    ∙ ap (λ r. chars ((last_line (take at file) ++ take k (drop at file)) ++ take n r)) (sym (drop-drop k at file))
     ∙ more.0 n
-    ∙ ap (λ r. chars (last_line (take at file) ++ take k (drop at file)) ++ chars (take n r)) (sym (drop_more at k file))
+    ∙ ap (λ r. chars (last_line (take at file) ++ take k (drop at file)) ++ chars (take n r)) (drop-drop k at file)
     ∙ ap (λ l. chars l ++ chars (take n (drop (at + k) file))) (sym s.last)
 
 pub none_left : (n : ℕ) (b : Bool) → b ≡ (n == 0) → b ≡ true → n ≡ 0

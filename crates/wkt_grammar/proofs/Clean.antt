@@ -14,7 +14,7 @@ use Rattle.wkt_grammar.specs.declared.table.Takes.TheVariants as kinds
 use Rattle.wkt_grammar.specs.Rows.{row_of}
 use Rattle.wkt_grammar.specs.Words.{keyword_of}
 use Rattle.wkt_grammar.specs.Walk.{next, missing, walk}
-use Rattle.wkt_grammar.proofs.Walks.{fits_end, rows_clear}
+use Rattle.wkt_grammar.proofs.Walks.{fits_end, rows_clear, Stands}
 use Rattle.wkt_grammar.specs.declared.fault.SlotFault.{SlotFault}
 use Rattle.wkt_grammar.specs.declared.fault.SlotFault.TheVariants.{Missing}
 use Rattle.wkt_grammar.specs.Slots.{argument, begin, whole, HasFault}
@@ -25,9 +25,6 @@ use Rattle.wkt_grammar.proofs.Fitting.{shape-bare, cuts_fitted}
 use Rattle.wkt_grammar.proofs.Found.{items_found}
 use Rattle.wkt_grammar.proofs.Reach.{fault_in}
 use Rattle.wkt_grammar.proofs.Whole.{cut_rises}
-
-abbrev Stands : Type 0
-Stands = List Slot × Bool
 
 -- ---- arguments that fit have no fault, by recursion on the tree
 

@@ -1,7 +1,8 @@
 -- The rows of the two editions.
 use Rattle.std.proofs.Common.{◌≡◌, Bool, true, false, cond, List, [], ◌∷◌, refl, subst, arith}
-use Rattle.std.specs.Prelude.{◌&&◌, ◌||◌, not}
+use Rattle.std.specs.Prelude.{◌||◌, not}
 use Rattle.std.specs.List.{filter, list_all}
+use Rattle.std.proofs.lemmas.Bool.{and_parts}
 use Rattle.std.proofs.lemmas.List.Elements.{All-nil}
 use Rattle.wkt_grammar.specs.declared.table.Edition.TheVariants as editions
 use Rattle.wkt_grammar.specs.declared.table.Slot.{Slot}
@@ -49,10 +50,6 @@ none_of AtMostOnce e = omega arith
 none_of Any e = tt
 none_of AtLeastOnce e = absurd cc
 
-pub both : (a b : Bool) → (a && b) ≡ true → (a ≡ true) × (b ≡ true)
-both true b e = (refl, e)
-both false b e = absurd cc
-
 abbrev pub passes : (Slot → Bool) → Slot → Bool
 passes p s = p s || not (is_required s.often)
 
@@ -60,7 +57,7 @@ passes p s = p s || not (is_required s.often)
 fits_more : (p : Slot → Bool) (row : List Slot) (args : List Argument) → list_all (passes p) row ≡ true → Fits (filter p row) args → Fits row args
 fits_more p [] args h f = f
 fits_more p (s ∷ row) args h f =
-    let parts = both (passes p s) (list_all (passes p) row) h in
+    let parts = and_parts (passes p s) (list_all (passes p) row) h in
     elim (p s) as (λ b. (b || not (is_required s.often)) ≡ true → Fits (cond b (s ∷ filter p row) (filter p row)) args → Fits (s ∷ row) args) [
       | true ↦ λ q g. (g.0, g.1, g.2, g.3, g.4, fits_more p row g.1 parts.1 g.5)
       | false ↦ λ q g. ([], args, refl, All-nil (λ a. takes s.takes a ≡ true), none_of s.often q, fits_more p row args parts.1 g)

@@ -3,6 +3,7 @@ use Rattle.std.proofs.Common.{◌≡◌, ℕ, suc, ◌<◌, Bool, true, false, L
 use Rattle.std.specs.Prelude.{option_and_then}
 use Rattle.std.specs.Option.{option_map, is_some}
 use Rattle.std.specs.List.{AllPass}
+use Rattle.std.proofs.lemmas.List.{length-map, map-append}
 use Rattle.std.proofs.lemmas.List.Elements.{All-nil, All-cons, All-head, All-tail}
 use Rattle.wkt_tree.specs.declared.token.Delimiter.{Delimiter}
 use Rattle.wkt_tree.specs.Tree.{Piece, Tok, Item, Items, last, more, tokens}
@@ -18,7 +19,7 @@ use Rattle.wkt_grammar.specs.declared.table.Argument.{Argument}
 use Rattle.wkt_grammar.specs.Rows.{row_of, row_in, enters, takes, Fits, Times}
 use Rattle.wkt_grammar.specs.Words.{keyword_of}
 use Rattle.wkt_grammar.specs.Walk.{next, missing, walk}
-use Rattle.wkt_grammar.proofs.Walks.{end_fits}
+use Rattle.wkt_grammar.proofs.Walks.{end_fits, Passes, Stands}
 use Rattle.wkt_grammar.proofs.Tables.{decides}
 use Rattle.wkt_grammar.specs.declared.fault.SlotFault.{SlotFault}
 use Rattle.wkt_grammar.specs.declared.fault.SlotFault.TheVariants.{Missing}
@@ -35,9 +36,6 @@ shape-bare (tree.text p) = refl
 shape-bare (tree.number p) = refl
 shape-bare (tree.word p) = refl
 shape-bare (tree.node k d o items c) = refl
-
-abbrev Stands : Type 0
-Stands = List Slot × Bool
 
 -- ---- trees without a fault, by recursion
 
@@ -149,17 +147,10 @@ sound_of ed n t (number b) h i = tt
 sound_of ed n t (word b) h i = tt
 sound_of ed n t (node k xs) h i = λ m e. i m (entered_by ed n t (keyword_of k) m h e)
 
-abbrev Takes-pass : Takes → Argument → Type 0
-Takes-pass t a = takes t a ≡ true
-
 all_fitting : (ed : Edition) (n : Node) (t : Takes) (xs : List Bare) → ((k : Keyword) (q : Node) → enters t k ≡ Some q → row_in (row_of ed n) k ≡ Some q) → AllPass (takes t) (map shape xs) → EachInside ed n xs → AllFitting ed t xs
 all_fitting ed n t [] h a i = tt
 all_fitting ed n t (x ∷ xs) h a i =
-    (record { taken = All-head (Takes-pass t) (shape x) (map shape xs) a; sound = sound_of ed n t x h i.0 }, all_fitting ed n t xs h (All-tail (Takes-pass t) (shape x) (map shape xs) a) i.1)
-
-length_shapes : (xs : List Bare) → length (map shape xs) ≡ length xs
-length_shapes [] = refl
-length_shapes (x ∷ xs) = let e = length_shapes xs in omega (arith, e)
+    (record { taken = All-head (Passes t) (shape x) (map shape xs) a; sound = sound_of ed n t x h i.0 }, all_fitting ed n t xs h (All-tail (Passes t) (shape x) (map shape xs) a) i.1)
 
 no_shapes : (xs : List Bare) → map shape xs ≡ [] → xs ≡ []
 no_shapes [] e = refl
@@ -174,7 +165,7 @@ cuts_from ed (s ∷ row) n xs h f i =
       p.back,
       p.parts,
       all_fitting ed n s.takes p.front (decides_head ed n s row h) (subst (λ l. AllPass (takes s.takes) l) (sym p.front_is) f.3) inside.0,
-      subst (λ k. Times s.often k) (ap length (sym p.front_is) ∙ length_shapes p.front) f.4,
+      subst (λ k. Times s.often k) (ap length (sym p.front_is) ∙ length-map p.front shape) f.4,
       cuts_from ed row n p.back (decides_rest ed n s row h) (subst (λ l. Fits row l) (sym p.back_is) f.5) inside.1,
     )
 
@@ -207,18 +198,14 @@ run_inside ed n t [] h f = tt
 run_inside ed n t (x ∷ xs) h f = (inside_of ed n t x h f.0, run_inside ed n t xs h f.1)
 
 pub passes_of : (ed : Edition) (t : Takes) (xs : List Bare) → AllFitting ed t xs → AllPass (takes t) (map shape xs)
-passes_of ed t [] f = All-nil (Takes-pass t)
-passes_of ed t (x ∷ xs) f = All-cons (Takes-pass t) (shape x) (map shape xs) f.0.taken (passes_of ed t xs f.1)
-
-map_shapes : (a b : List Bare) → map shape (a ++ b) ≡ map shape a ++ map shape b
-map_shapes [] b = refl
-map_shapes (x ∷ a) b = ap (λ (l : List Argument). shape x ∷ l) (map_shapes a b)
+passes_of ed t [] f = All-nil (Passes t)
+passes_of ed t (x ∷ xs) f = All-cons (Passes t) (shape x) (map shape xs) f.0.taken (passes_of ed t xs f.1)
 
 cuts_back : (ed : Edition) (row : List Slot) (n : Node) (xs : List Bare) → Decides ed n row → Cuts ed row xs → Fits row (map shape xs) × EachInside ed n xs
 cuts_back ed [] n xs h c = (ap (map shape) c, subst (EachInside ed n) (sym c) tt)
 cuts_back ed (s ∷ row) n xs h c =
     let r = cuts_back ed row n c.1 (decides_rest ed n s row h) c.5 in (
-      (map shape c.0, map shape c.1, ap (map shape) c.2 ∙ map_shapes c.0 c.1, passes_of ed s.takes c.0 c.3, subst (λ k. Times s.often k) (sym (length_shapes c.0)) c.4, r.0),
+      (map shape c.0, map shape c.1, ap (map shape) c.2 ∙ map-append shape c.0 c.1, passes_of ed s.takes c.0 c.3, subst (λ k. Times s.often k) (sym (length-map c.0 shape)) c.4, r.0),
       subst (EachInside ed n) (sym c.2) (back_inside ed n c.0 c.1 (run_inside ed n s.takes c.0 (decides_head ed n s row h) c.3) r.1),
     )
 
@@ -227,4 +214,4 @@ cuts_fitted ed n xs c = let r = cuts_back ed (row_of ed n) n (args xs) (λ i d k
 
 pub cuts_fits : (ed : Edition) (row : List Slot) (xs : List Bare) → Cuts ed row xs → Fits row (map shape xs)
 cuts_fits ed [] xs c = ap (map shape) c
-cuts_fits ed (s ∷ row) xs c = (map shape c.0, map shape c.1, ap (map shape) c.2 ∙ map_shapes c.0 c.1, passes_of ed s.takes c.0 c.3, subst (λ k. Times s.often k) (sym (length_shapes c.0)) c.4, cuts_fits ed row c.1 c.5)
+cuts_fits ed (s ∷ row) xs c = (map shape c.0, map shape c.1, ap (map shape) c.2 ∙ map-append shape c.0 c.1, passes_of ed s.takes c.0 c.3, subst (λ k. Times s.often k) (sym (length-map c.0 shape)) c.4, cuts_fits ed row c.1 c.5)

@@ -1,10 +1,11 @@
 -- Keywords: their places, their spellings, and the meanings of words.
-use Rattle.std.proofs.Common.{◌≡◌, ℕ, Bool, true, false, cond, List, [], ◌∷◌, ◌++◌, map, get_or, Option, Some, None, refl, sym, ap, ◌∙◌, arith}
-use Rattle.std.specs.Prelude.{◌==◌, ◌&&◌, ◌||◌, ◌↔◌, if◌then◌else◌}
-use Rattle.std.specs.Bool.{Decides}
+use Rattle.std.proofs.Common.{◌≡◌, ℕ, Bool, true, false, cond, List, [], ◌∷◌, ◌++◌, map, get_or, Option, Some, None, refl, sym, ap, ◌∙◌}
+use Rattle.std.specs.Prelude.{◌&&◌, ◌||◌, ◌↔◌, if◌then◌else◌}
 use Rattle.std.specs.Char.{to_ascii_lowercase}
 use Rattle.std.specs.List.{list_any}
 use Rattle.std.specs.Str.{bytes_eq}
+use Rattle.std.proofs.lemmas.Bool.{eqb-true, eq-eqb}
+use Rattle.std.proofs.lemmas.Option.{same_Some}
 use Rattle.std.proofs.lemmas.Slice.Eq.{bytes_eq-Decides}
 use Rattle.std.specs.Map.{lookup}
 use Rattle.std.specs.Option.{option_or}
@@ -56,17 +57,11 @@ placed keywords.Uri = refl
 placed keywords.Remark = refl
 placed keywords.Identifier = refl
 
-same_place : (a b : ℕ) → (a == b) ≡ true → a ≡ b
-same_place a b e = grind arith
-
-own_place : (a : ℕ) → (a == a) ≡ true
-own_place a = grind arith
-
 pub same_is : (a b : Keyword) → same_keyword a b ≡ true → a ≡ b
-same_is a b e = sym (placed a) ∙ (ap (λ i. get_or all_keywords i keywords.Unit) (same_place (place_of a) (place_of b) e) ∙ placed b)
+same_is a b e = sym (placed a) ∙ (ap (λ i. get_or all_keywords i keywords.Unit) (eqb-true (place_of a) (place_of b) e) ∙ placed b)
 
 pub is_same : (k : Keyword) → same_keyword k k ≡ true
-is_same k = own_place (place_of k)
+is_same k = eq-eqb (place_of k) (place_of k) refl
 
 -- a slot for nodes with one keyword takes no other keyword
 pub node_only : (own : Keyword) (n : Node) (k : Keyword) (m : Node) → enters (kinds.Node own n) k ≡ Some m → (k ≡ own) × (m ≡ n)
@@ -139,29 +134,20 @@ Meanings = List (List ℕ × Keyword)
 abbrev is_keyword : Keyword → List ℕ → Meanings → Bool
 is_keyword k bytes ms = list_any (λ m. same_word m.0 bytes && same_keyword m.1 k) ms
 
-some_same : (a b : Keyword) → Some a ≡ Some b → a ≡ b
-some_same a b e = cc
-
 looked_up : (k : Keyword) (bytes : List ℕ) (ms : Meanings) → lookup (λ w. same_word w bytes) ms ≡ Some k → is_keyword k bytes ms ≡ true
 looked_up k bytes [] e = absurd cc
 looked_up k bytes (m ∷ ms) e = by (same_word m.0 bytes) e (looked_up k bytes ms)
   where
     by : (t : Bool) → cond t (Some m.1) (lookup (λ w. same_word w bytes) ms) ≡ Some k → (lookup (λ w. same_word w bytes) ms ≡ Some k → is_keyword k bytes ms ≡ true) → ((t && same_keyword m.1 k) || is_keyword k bytes ms) ≡ true
-    by true f g = ap (λ t. t || is_keyword k bytes ms) (ap (λ j. same_keyword j k) (some_same m.1 k f) ∙ is_same k)
+    by true f g = ap (λ t. t || is_keyword k bytes ms) (ap (λ j. same_keyword j k) (same_Some m.1 k f) ∙ is_same k)
     by false f g = g f
-
-same_bytes : (a b : List ℕ) → bytes_eq a b ≡ true → a ≡ b
-same_bytes a b h = by (bytes_eq a b) (bytes_eq-Decides a b) h
-  where
-    by : (t : Bool) → Decides t (a ≡ b) → t ≡ true → a ≡ b
-    by t d e = d.0 e
 
 abbrev meaning_by : List ℕ → Option Keyword
 meaning_by l = lookup (λ w. bytes_eq (map to_ascii_lowercase w) l) meanings
 
 same_meaning : (a b : List ℕ) → same_word a b ≡ true → keyword_of a ≡ keyword_of b
 unfolding keyword_of
-same_meaning a b e = ap meaning_by (same_bytes (map to_ascii_lowercase a) (map to_ascii_lowercase b) e)
+same_meaning a b e = ap meaning_by ((bytes_eq-Decides (map to_ascii_lowercase a) (map to_ascii_lowercase b)).0 e)
 
 abbrev AllMean : Meanings → Type 0
 AllMean [] = Unit {0}

@@ -5,6 +5,7 @@ use Rattle.std.specs.List.{flat_map}
 use Rattle.std.specs.Option.{is_some}
 use Rattle.std.specs.Char.{to_ascii_lowercase}
 use Rattle.std.proofs.lemmas.Bool.Decides.{nat_tests}
+use Rattle.std.proofs.lemmas.Option.{same_Some}
 use Rattle.std.proofs.Props.{props}
 use mathlib.Core.HLevel.{is_prop→PathP}
 use Rattle.crs_number.specs.Numeral.{Spells}
@@ -224,14 +225,11 @@ direction_found to.GeocentricZ = refl
 direction_found to.Up = refl
 direction_found to.Down = refl
 
-some_same : {A : Type 0} (v w : A) → Some v ≡ Some w → v ≡ w
-some_same v w e = cc
-
 word_once : {A : Type 0} (f : A → List ℕ) (all : List A) → ((v : A) → first_word f all (small_letters (f v)) ≡ Some v) → (x : Bare) (v w : A) → DenotesWord f x v → DenotesWord f x w → v ≡ w
 word_once f all found x v w d e =
     let same = word_injective d.bytes e.bytes (sym d.is ∙ e.is) in
     let letters = d.spells ∙ (ap small_letters same ∙ sym e.spells) in
-    some_same v w (sym (found v) ∙ (ap (first_word f all) letters ∙ found w))
+    same_Some v w (sym (found v) ∙ (ap (first_word f all) letters ∙ found w))
 
 pub kind_law : Law kinds.CsKind (DenotesWord system_word) kind_tree
 kind_law = record {

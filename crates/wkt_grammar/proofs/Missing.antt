@@ -2,6 +2,7 @@
 use Rattle.std.proofs.Common.{◌≡◌, Bool, true, false, cond, List, [], ◌∷◌, ◌++◌, length, drop, Option, Some, None, refl, sym, ap, ◌∙◌, subst}
 use Rattle.std.specs.Prelude.{◌&&◌, ◌||◌, not, option_and_then}
 use Rattle.std.specs.List.{list_all}
+use Rattle.std.proofs.lemmas.Bool.{not-true, and_parts, and_from}
 use Rattle.std.proofs.lemmas.List.Elements.{All-nil, All-cons, All-head, All-tail}
 use Rattle.wkt_grammar.specs.declared.table.Edition.{Edition}
 use Rattle.wkt_grammar.specs.declared.table.Slot.{Slot}
@@ -12,7 +13,7 @@ use Rattle.wkt_grammar.specs.Rows.{row_of, takes, Fits, is_required, FirstMissin
 use Rattle.wkt_grammar.specs.declared.walk.RowPosition.{RowPosition}
 use Rattle.std.specs.Prelude.{IfSome}
 use Rattle.wkt_grammar.specs.Walk.{IsAt, is_many, next, walk, missing, may_begin, all_arguments, is_clear}
-use Rattle.wkt_grammar.proofs.Walks.{Left, Passes, Stands, Taken, and_parts, begins, both_true, clash_free, clear_next, each_argument, fits_left, left_fits, may_leave, may_left, may_take, once_full, one_less, one_more}
+use Rattle.wkt_grammar.proofs.Walks.{Left, Passes, Stands, Taken, begins, clash_free, clear_next, each_argument, fits_left, left_fits, may_leave, may_left, may_take, once_full, one_less, one_more}
 
 -- ---- the first slot that is missing
 
@@ -27,16 +28,12 @@ pub record Lacks (row : List Slot) (filled : Bool) (args : List Argument) (n : S
   pub is : slot.name ≡ n
   pub head : before ≡ [] → filled ≡ false
 
-not_true : (b : Bool) → not b ≡ true → b ≡ false
-not_true true e = absurd cc
-not_true false e = refl
-
 lacks_none : (left : List Slot) (filled : Bool) (n : SlotName) → missing left filled ≡ Some n → Lacks left filled [] n
 lacks_none [] filled n e = absurd cc
 lacks_none (s ∷ left) filled n e =
     elim (is_required s.often && not filled) as (λ b. (is_required s.often && not filled) ≡ b → cond b (Some s.name) (missing left false) ≡ Some n → Lacks (s ∷ left) filled [] n) [
       | true ↦ λ p g. let q = and_parts (is_required s.often) (not filled) p in
-          record { before = []; slot = s; after = left; parts = refl; fit = refl; required = q.0; is = cc; head = λ z. not_true filled q.1 }
+          record { before = []; slot = s; after = left; parts = refl; fit = refl; required = q.0; is = cc; head = λ z. not-true filled q.1 }
       | false ↦ λ p g. let r = lacks_none left false n g in
           record {
             before = s ∷ r.before;
@@ -134,12 +131,12 @@ front_step (s ∷ before) tail filled a args c (b ∷ run, rest, e, all, n, f) =
     let same : a ≡ b = cc in
     let others : args ≡ run ++ rest = cc in
     let t : takes s.takes a ≡ true = ap (takes s.takes) same ∙ All-head (Passes s.takes) b run all in
-    let passed = both_true (takes s.takes a) (not filled || is_many s.often) t (may_take s.often filled (length run) n) in
+    let passed = and_from (takes s.takes a) (not filled || is_many s.often) t (may_take s.often filled (length run) n) in
     (s, before, ap (λ x. Taken s row filled a x (is_required s.often && not filled)) passed, (run, rest, others, All-tail (Passes s.takes) b run all, one_less s.often filled (length run) n, f))
 
 -- if no argument remains for the first slots, and the slot after them is required, this slot is missing
 front_missing : (before : List Slot) (s : Slot) (after : List Slot) (filled : Bool) → Left before filled [] → is_required s.often ≡ true → (before ≡ [] → filled ≡ false) → missing (before ++ s ∷ after) filled ≡ Some s.name
-front_missing [] s after filled h r z = ap (λ b. cond b (Some s.name) (missing after false)) (both_true (is_required s.often) (not filled) r (ap not (z refl)))
+front_missing [] s after filled h r z = ap (λ b. cond b (Some s.name) (missing after false)) (and_from (is_required s.often) (not filled) r (ap not (z refl)))
 front_missing (x ∷ before) s after filled ([], rest, e, all, n, f) r z =
     ap (λ b. cond b (Some x.name) (missing (before ++ s ∷ after) false)) (may_left x.often filled n)
     ∙ front_missing before s after false (fits_left before [] (subst (λ l. Fits before l) (sym e) f)) r (λ _. refl)

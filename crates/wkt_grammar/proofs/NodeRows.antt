@@ -3,21 +3,23 @@ use Rattle.std.proofs.Common.{◌≡◌, ℕ, zero, suc, ◌+◌, ◌≤◌, Boo
 use Rattle.std.specs.Prelude.{◌&&◌, not}
 use Rattle.std.specs.Option.{is_some}
 use Rattle.std.specs.List.{AllPass, list_all}
+use Rattle.std.proofs.lemmas.Bool.{and_parts}
+use Rattle.std.proofs.lemmas.List.{length-map, map-append}
 use Rattle.std.proofs.lemmas.List.Elements.{All-nil, All-cons, All-head, All-tail}
+use Rattle.std.proofs.lemmas.Option.{same_Some}
 use Rattle.wkt_grammar.specs.declared.table.Edition.TheVariants as editions
 use Rattle.wkt_grammar.specs.declared.table.Slot.{Slot}
 use Rattle.wkt_grammar.specs.declared.table.SlotName.{SlotName}
 use Rattle.wkt_grammar.specs.declared.table.Node.{Node}
 use Rattle.wkt_grammar.specs.declared.table.Keyword.{Keyword}
 use Rattle.wkt_grammar.specs.declared.table.Takes.{Takes}
-use Rattle.wkt_grammar.specs.declared.table.Argument.{Argument}
 use Rattle.wkt_grammar.specs.declared.table.Often.{Often}
 use Rattle.wkt_grammar.specs.declared.table.Often.TheVariants.{Once, AtMostOnce, Any, AtLeastOnce}
 use Rattle.wkt_grammar.specs.Rows.{takes, enters, Times, Fits, is_required}
 use Rattle.wkt_grammar.specs.Words.{spelling, keyword_of}
 use Rattle.wkt_grammar.proofs.Keywords.{keyword_spelled}
 use Rattle.wkt_grammar.specs.Walk.{is_many, may_begin, all_arguments, is_clear}
-use Rattle.wkt_grammar.proofs.Walks.{begins, each_argument, rows_clear}
+use Rattle.wkt_grammar.proofs.Walks.{begins, each_argument, rows_clear, Passes}
 use Rattle.wkt_grammar.specs.Slots.{argument_by}
 use Rattle.wkt_grammar.specs.Bare.{Bare, Bares, node, args, bares, shape}
 use Rattle.wkt_grammar.specs.Fitted.{entered}
@@ -29,29 +31,13 @@ use Rattle.wkt_grammar.specs.Trees as trees
 
 -- ---- arguments that denote the fields of a row fit it
 
-map_shapes : (a b : List Bare) → map shape (a ++ b) ≡ map shape a ++ map shape b
-map_shapes [] b = refl
-map_shapes (x ∷ a) b = ap (λ (l : List Argument). shape x ∷ l) (map_shapes a b)
-
-length_shapes : (xs : List Bare) → length (map shape xs) ≡ length xs
-length_shapes [] = refl
-length_shapes (x ∷ xs) = let e = length_shapes xs in omega (arith, e)
-
 pub runs_fit : (row : List Slot) (fields : Fields) (xs : List Bare) → Runs row fields xs → Fits row (map shape xs)
 runs_fit [] nothing xs r = ap (map shape) r
 runs_fit [] (P & fields) xs r = absurd r
 runs_fit (s ∷ row) nothing xs r = absurd r
-runs_fit (s ∷ row) (P & fields) xs (run, rest, e, m, p, r) = (map shape run, map shape rest, ap (map shape) e ∙ map_shapes run rest, m.0, subst (λ k. Times s.often k) (sym (length_shapes run)) m.1, runs_fit row fields rest r)
+runs_fit (s ∷ row) (P & fields) xs (run, rest, e, m, p, r) = (map shape run, map shape rest, ap (map shape) e ∙ map-append shape run rest, m.0, subst (λ k. Times s.often k) (sym (length-map run shape)) m.1, runs_fit row fields rest r)
 
 -- ---- arguments can be cut into the runs of a row in one way only
-
-abbrev Passes : Takes → Argument → Type 0
-Passes t a = takes t a ≡ true
-
-and_parts : (a b : Bool) → (a && b) ≡ true → (a ≡ true) × (b ≡ true)
-and_parts true true e = (refl, refl)
-and_parts true false e = absurd cc
-and_parts false b e = absurd cc
 
 -- a slot that takes exactly one argument takes no second one
 once_full : (o : Often) (k n : ℕ) → (is_required o && not (is_many o)) ≡ true → Times o (zero + k) → Times o (suc n + k) → ⊥
@@ -237,11 +223,8 @@ pub ◌>>◌ : {A B : Type 0} {s : Slot} {row : List Slot} {P : A → List Bare 
 node_fitting : (t : Takes) (K : Keyword) (n : Node) (k : List ℕ) (xs : Bares) → keyword_of k ≡ Some K → enters t K ≡ Some n → Fitted n xs → Fitting t (node k xs)
 node_fitting t K n k xs e g f = record {
   taken = ap (λ o. takes t (argument_by o)) e ∙ ap (λ (o : Option Node). is_some o) g;
-  sound = λ m h. let same : n ≡ m = some_same n m (sym g ∙ (ap (entered t) (sym e) ∙ h)) in subst (λ q. Fitted q xs) same f;
+  sound = λ m h. let same : n ≡ m = same_Some n m (sym g ∙ (ap (entered t) (sym e) ∙ h)) in subst (λ q. Fitted q xs) same f;
 }
-  where
-    some_same : (a b : Node) → Some a ≡ Some b → a ≡ b
-    some_same a b h = cc
 
 args_bares : (xs : List Bare) → args (bares xs) ≡ xs
 args_bares [] = refl
@@ -249,9 +232,6 @@ args_bares (x ∷ xs) = ap (λ (l : List Bare). x ∷ l) (args_bares xs)
 
 same_items : (k k' : List ℕ) (xs ys : Bares) → node k xs ≡ node k' ys → (k ≡ k') × (xs ≡ ys)
 same_items k k' xs ys e = (cc, cc)
-
-some_keyword : (a b : Keyword) → Some a ≡ Some b → a ≡ b
-some_keyword a b h = cc
 
 -- the law of nodes whose value is determined by the keyword and the fields
 pub node_law : {A B : Type 0} {F : B → Fields} {run : B → List Bare} (t : Takes) (K : A → Keyword) (n : Node) (to : A → B)
@@ -261,7 +241,7 @@ node_law {A} {B} {F} {run} t K n to enter same row = record {
   fits = λ x v d. subst (Fitting t) (sym d.is) (node_fitting t (K v) n d.keyword d.items d.meaning (enter v) (cuts_fitted editions.Second n d.items (row.fits (to v) (args d.items) d.runs)));
   once = λ x v w d e.
       let items = same_items d.keyword e.keyword d.items e.items (sym d.is ∙ e.is) in
-      let key = some_keyword (K v) (K w) (sym d.meaning ∙ (ap keyword_of items.0 ∙ e.meaning)) in
+      let key = same_Some (K v) (K w) (sym d.meaning ∙ (ap keyword_of items.0 ∙ e.meaning)) in
       same v w key (row.once (rows_clear editions.Second n) (args d.items) (to v) (to w) d.runs (subst (λ l. Runs (row_of n) (F (to w)) (args l)) (sym items.1) e.runs));
   spelled = λ v. record {
     keyword = spelling (K v);
@@ -274,4 +254,4 @@ node_law {A} {B} {F} {run} t K n to enter same row = record {
 
 -- equal nodes have the same keyword
 pub same_keyword : (k k' : List ℕ) (xs ys : Bares) (K J : Keyword) → node k xs ≡ node k' ys → keyword_of k ≡ Some K → keyword_of k' ≡ Some J → K ≡ J
-same_keyword k k' xs ys K J e p q = some_keyword K J (sym p ∙ (ap keyword_of (same_items k k' xs ys e).0 ∙ q))
+same_keyword k k' xs ys K J e p q = same_Some K J (sym p ∙ (ap keyword_of (same_items k k' xs ys e).0 ∙ q))

@@ -12,12 +12,12 @@ use Rattle.wkt_grammar.specs.declared.table.Keyword.{Keyword}
 use Rattle.wkt_grammar.specs.declared.table.Node.{Node}
 use Rattle.wkt_grammar.specs.declared.table.Argument.{Argument}
 use Rattle.wkt_grammar.specs.declared.table.Argument.TheVariants as arguments
-use Rattle.wkt_grammar.specs.Rows.{row_of, row_in, Admitted, Fits}
+use Rattle.wkt_grammar.specs.Rows.{row_of, row_in, Admitted}
 use Rattle.wkt_grammar.specs.Words.{keyword_of, is_cs_kind, is_direction}
 use Rattle.wkt_grammar.specs.Walk.{next, walk, missing}
-use Rattle.wkt_grammar.proofs.Walks.{goes_on, admits, rows_clear, walk_push, missing_unfit}
+use Rattle.wkt_grammar.proofs.Walks.{goes_on, admits, rows_clear, walk_push, missing_unfit, Stands}
 use Rattle.wkt_grammar.proofs.Missing.{first_missing_is, missing_is}
-use Rattle.wkt_grammar.proofs.Tables.{lone_count, lone_kind, lone_direction}
+use Rattle.wkt_grammar.proofs.Tables.{lone_count, lone_kind, lone_direction, front_admitted}
 use Rattle.wkt_grammar.specs.declared.fault.SlotFault.{SlotFault}
 use Rattle.wkt_grammar.specs.declared.fault.SlotFault.TheVariants.{NotHere, Missing, NotCount, WordUnknown}
 use Rattle.wkt_grammar.specs.Slots.{argument, argument_by, begin, list, Body, body, IsRowOf, Reaches, itself, inside, IsRefusal, IsRefused, IsMissing, HasFault}
@@ -50,9 +50,6 @@ next_admit ed n args left l filled a w e = admits (row_of ed n) (args ++ a ∷ [
 
 next_no : (ed : Edition) (n : Node) (args : List Argument) (left : List Slot) (filled : Bool) (a : Argument) → At ed n args left filled → next left filled a ≡ None → Admitted (row_of ed n) (args ++ a ∷ []) → ⊥
 next_no ed n args left filled a w e ad = let g = admit_next ed n args left filled a w ad in let h = sym e ∙ g.1 in absurd cc
-
-front_admitted : (row : List Slot) (args : List Argument) (a : Argument) → Admitted row (args ++ a ∷ []) → Admitted row args
-front_admitted row args a ad = record { others = a ∷ ad.others; fit = subst (λ l. Fits row l) (append_assoc args (a ∷ []) ad.others) ad.fit }
 
 -- ---- the fault of a refused argument
 
@@ -200,9 +197,6 @@ on_walk left filled a args at R I G w h =
       | None ↦ λ e. absurd cc
       | Some l ↦ λ e. inr (h l e)
     ] w
-
-abbrev Stands : Type 0
-Stands = List Slot × Bool
 
 here_at : (ed : Edition) (n : Node) (left : List Slot) (filled : Bool) (at : Stands) (j i : Item) (g : SlotFault) → j ≡ i → ◌≡◌ {A = Option Stands} (Some (left, filled)) (Some at) → Here ed n at.0 at.1 i g → Here ed n left filled j g
 here_at ed n left filled at j i g e w h =

@@ -2,6 +2,7 @@
 use Rattle.std.proofs.Common.{◌≡◌, ℕ, Bool, true, false, cond, List, [], ◌∷◌, ◌++◌, refl, subst}
 use Rattle.std.specs.Prelude.{◌||◌, not}
 use Rattle.std.specs.List.{filter, list_all}
+use Rattle.std.proofs.lemmas.Bool.{and_parts}
 use Rattle.wkt_tree.specs.Tree.{Piece, Tok, Items, tokens}
 use Rattle.wkt_tree.specs.Tree as tree
 use Rattle.wkt_tree.specs.Tokens.{Cut}
@@ -12,7 +13,7 @@ use Rattle.wkt_grammar.specs.declared.table.Node.TheVariants as nodes
 use Rattle.wkt_grammar.specs.declared.table.Takes.{Takes}
 use Rattle.wkt_grammar.specs.Editions.{is_added}
 use Rattle.wkt_grammar.specs.Rows.{row_of, is_required}
-use Rattle.wkt_grammar.proofs.Editions.{both, passes, none_of, added_may_stay, rows_without}
+use Rattle.wkt_grammar.proofs.Editions.{passes, none_of, added_may_stay, rows_without}
 use Rattle.wkt_grammar.specs.Slots.{IsClean}
 use Rattle.wkt_grammar.specs.Bare.{Bare, Bares, text, number, word, node, none, and, args, bare}
 use Rattle.wkt_grammar.specs.Fitted.{Fitted, Fitting, AllFitting, Cuts}
@@ -39,7 +40,7 @@ run_stays t (x ∷ xs) h f = (h.0 t f.0, run_stays t xs h.1 f.1)
 cuts_stay : (p : Slot → Bool) (row : List Slot) (xs : List Bare) → list_all (passes p) row ≡ true → EachStays xs → Cuts editions.First (filter p row) xs → Cuts editions.Second row xs
 cuts_stay p [] xs h l c = c
 cuts_stay p (s ∷ row) xs h l c =
-    let parts = both (passes p s) (list_all (passes p) row) h in
+    let parts = and_parts (passes p s) (list_all (passes p) row) h in
     elim (p s) as (λ b. (b || not (is_required s.often)) ≡ true → Cuts editions.First (cond b (s ∷ filter p row) (filter p row)) xs → Cuts editions.Second (s ∷ row) xs) [
       | true ↦ λ q g. let k = parts_stay g.0 g.1 (subst EachStays g.2 l) in (g.0, g.1, g.2, run_stays s.takes g.0 k.0 g.3, g.4, cuts_stay p row g.1 parts.1 k.1 g.5)
       | false ↦ λ q g. ([], xs, refl, tt, none_of s.often q, cuts_stay p row xs parts.1 l g)

@@ -3,6 +3,7 @@ use Rattle.std.proofs.Common.{append_assoc, ◌≡◌, ℕ, ◌<◌, Bool, true,
 use Rattle.std.specs.Prelude.{◌&&◌, ◌||◌, not, option_and_then}
 use Rattle.std.specs.Option.{is_some}
 use Rattle.std.specs.List.{list_all}
+use Rattle.std.proofs.lemmas.Bool.{eqb-true, and_parts}
 use Rattle.std.proofs.lemmas.List.Sums.{AllPass-from_list_all}
 use Rattle.wkt_grammar.specs.declared.table.Edition.{Edition}
 use Rattle.wkt_grammar.specs.declared.table.Edition.TheVariants as editions
@@ -16,7 +17,7 @@ use Rattle.wkt_grammar.specs.declared.table.Node.TheVariants as nodes
 use Rattle.wkt_grammar.specs.Rows.{row_of, row_in, enters, takes, is_required, Fits, Admitted}
 use Rattle.wkt_grammar.specs.Words.{all_keywords}
 use Rattle.wkt_grammar.specs.Walk.{is_many, next, walk, all_arguments}
-use Rattle.wkt_grammar.proofs.Walks.{goes_on, rows_clear, walk_push, each_argument, admits}
+use Rattle.wkt_grammar.proofs.Walks.{goes_on, rows_clear, walk_push, each_argument, admits, Stands}
 
 -- ---- the row of a node by its keyword
 
@@ -84,15 +85,12 @@ agree None o = true
 agree (Some a) None = false
 agree (Some a) (Some b) = nat_eq (rank a) (rank b)
 
-rank_is : (a b : ℕ) → nat_eq a b ≡ true → a ≡ b
-rank_is a b e = grind arith
-
 agree_is : (o p : Option Node) (m : Node) → agree o p ≡ true → o ≡ Some m → p ≡ Some m
 agree_is None p m e f = absurd cc
 agree_is (Some a) None m e f = absurd cc
 agree_is (Some a) (Some b) m e f =
     let same : a ≡ m = cc in
-    let r = ap unrank (rank_is (rank a) (rank b) e) in
+    let r = ap unrank (eqb-true (rank a) (rank b) e) in
     ap Some (sym (unrank_rank b) ∙ (sym r ∙ (unrank_rank a ∙ same)))
 
 abbrev agrees : List Slot → Keyword → Bool
@@ -274,26 +272,15 @@ rows_tested ed nodes.VerticalExtent = refl
 rows_tested ed nodes.Value = refl
 rows_tested ed nodes.Identifier = refl
 
-left_and : (a b : Bool) → (a && b) ≡ true → a ≡ true
-left_and true b e = refl
-left_and false b e = absurd cc
-
-right_and : (a b : Bool) → (a && b) ≡ true → b ≡ true
-right_and true b e = e
-right_and false b e = absurd cc
-
 tested_next : (row : List Slot) (filled : Bool) (a : Argument) (left : List Slot) → next row filled a ≡ Some left → all_tested row ≡ true → all_tested left ≡ true
 tested_next [] filled a left e c = absurd cc
 tested_next (s ∷ row) filled a left e c =
-    by (takes s.takes a && (not filled || is_many s.often)) (is_required s.often && not filled) e (λ g. tested_next row false a left g (right_and (tested (s ∷ row) true && tested (s ∷ row) false) (all_tested row) c))
+    by (takes s.takes a && (not filled || is_many s.often)) (is_required s.often && not filled) e (λ g. tested_next row false a left g (and_parts (tested (s ∷ row) true && tested (s ∷ row) false) (all_tested row) c).1)
   where
     by : (t m : Bool) → cond t (Some (s ∷ row)) (cond m None (next row false a)) ≡ Some left → (next row false a ≡ Some left → all_tested left ≡ true) → all_tested left ≡ true
     by true m g ih = let same : s ∷ row ≡ left = cc in subst (λ l. all_tested l ≡ true) same c
     by false true g ih = absurd cc
     by false false g ih = ih g
-
-abbrev Stands : Type 0
-Stands = List Slot × Bool
 
 tested_walk : (args : List Argument) (row : List Slot) (filled : Bool) (at : Stands) → walk row filled args ≡ Some at → all_tested row ≡ true → all_tested at.0 ≡ true
 tested_walk [] row filled at e c = let same : ◌≡◌ {A = Stands} (row, filled) at = cc in subst (λ (x : Stands). all_tested x.0 ≡ true) same c
@@ -304,12 +291,12 @@ tested_walk (a ∷ args) row filled at e c =
     ] refl e
 
 tested_at : (left : List Slot) (filled : Bool) → all_tested left ≡ true → tested left filled ≡ true
-tested_at [] true c = left_and (tested [] true) (tested [] false) c
-tested_at [] false c = right_and (tested [] true) (tested [] false) c
-tested_at (s ∷ row) true c = left_and (tested (s ∷ row) true) (tested (s ∷ row) false) (left_and (tested (s ∷ row) true && tested (s ∷ row) false) (all_tested row) c)
-tested_at (s ∷ row) false c = right_and (tested (s ∷ row) true) (tested (s ∷ row) false) (left_and (tested (s ∷ row) true && tested (s ∷ row) false) (all_tested row) c)
+tested_at [] true c = (and_parts (tested [] true) (tested [] false) c).0
+tested_at [] false c = (and_parts (tested [] true) (tested [] false) c).1
+tested_at (s ∷ row) true c = (and_parts (tested (s ∷ row) true) (tested (s ∷ row) false) (and_parts (tested (s ∷ row) true && tested (s ∷ row) false) (all_tested row) c).0).0
+tested_at (s ∷ row) false c = (and_parts (tested (s ∷ row) true) (tested (s ∷ row) false) (and_parts (tested (s ∷ row) true && tested (s ∷ row) false) (all_tested row) c).0).1
 
-front_admitted : (row : List Slot) (args : List Argument) (a : Argument) → Admitted row (args ++ a ∷ []) → Admitted row args
+pub front_admitted : (row : List Slot) (args : List Argument) (a : Argument) → Admitted row (args ++ a ∷ []) → Admitted row args
 front_admitted row args a ad = record { others = a ∷ ad.others; fit = subst (λ l. Fits row l) (append_assoc args (a ∷ []) ad.others) ad.fit }
 
 some_next : (ed : Edition) (n : Node) (args : List Argument) (at : Stands) (a : Argument) → walk (row_of ed n) false args ≡ Some at → Admitted (row_of ed n) (args ++ a ∷ []) → is_some (next at.0 at.1 a) ≡ true
@@ -345,7 +332,7 @@ module _ (ed : Edition) (n : Node) (before : List Argument) (a : Argument) where
       let w = goes_on (row_of ed n) before (rows_clear ed n) (front_admitted (row_of ed n) before arguments.Count x) in
       let t = tested_at w.0.0 w.0.1 (tested_walk before (row_of ed n) false w.0 w.1 (rows_tested ed n)) in
       is_count_so a (alone_is arguments.Count is_count (not (is_some (next w.0.0 w.0.1 arguments.Number))) w.0.0 w.0.1 a
-      (left_and _ (alone arguments.CsKind is_kind true w.0.0 w.0.1 && alone arguments.Direction is_direction true w.0.0 w.0.1) t)
+      (and_parts _ (alone arguments.CsKind is_kind true w.0.0 w.0.1 && alone arguments.Direction is_direction true w.0.0 w.0.1) t).0
       (some_next ed n before w.0 arguments.Count w.1 x) (ap not (no_next ed n before w.0 arguments.Number w.1 y)) (some_next ed n before w.0 a w.1 z))
 
   pub lone_kind : Admitted (row_of ed n) (before ++ arguments.CsKind ∷ []) → Admitted (row_of ed n) (before ++ a ∷ []) → a ≡ arguments.CsKind
@@ -353,7 +340,7 @@ module _ (ed : Edition) (n : Node) (before : List Argument) (a : Argument) where
       let w = goes_on (row_of ed n) before (rows_clear ed n) (front_admitted (row_of ed n) before arguments.CsKind x) in
       let t = tested_at w.0.0 w.0.1 (tested_walk before (row_of ed n) false w.0 w.1 (rows_tested ed n)) in
       is_kind_so a (alone_is arguments.CsKind is_kind true w.0.0 w.0.1 a
-      (left_and (alone arguments.CsKind is_kind true w.0.0 w.0.1) (alone arguments.Direction is_direction true w.0.0 w.0.1) (right_and _ _ t))
+      (and_parts (alone arguments.CsKind is_kind true w.0.0 w.0.1) (alone arguments.Direction is_direction true w.0.0 w.0.1) (and_parts _ _ t).1).0
       (some_next ed n before w.0 arguments.CsKind w.1 x) refl (some_next ed n before w.0 a w.1 z))
 
   pub lone_direction : Admitted (row_of ed n) (before ++ arguments.Direction ∷ []) → Admitted (row_of ed n) (before ++ a ∷ []) → a ≡ arguments.Direction
@@ -361,5 +348,5 @@ module _ (ed : Edition) (n : Node) (before : List Argument) (a : Argument) where
       let w = goes_on (row_of ed n) before (rows_clear ed n) (front_admitted (row_of ed n) before arguments.Direction x) in
       let t = tested_at w.0.0 w.0.1 (tested_walk before (row_of ed n) false w.0 w.1 (rows_tested ed n)) in
       is_direction_so a (alone_is arguments.Direction is_direction true w.0.0 w.0.1 a
-      (right_and (alone arguments.CsKind is_kind true w.0.0 w.0.1) (alone arguments.Direction is_direction true w.0.0 w.0.1) (right_and _ _ t))
+      (and_parts (alone arguments.CsKind is_kind true w.0.0 w.0.1) (alone arguments.Direction is_direction true w.0.0 w.0.1) (and_parts _ _ t).1).1
       (some_next ed n before w.0 arguments.Direction w.1 x) refl (some_next ed n before w.0 a w.1 z))

@@ -2,6 +2,7 @@
 use Rattle.std.proofs.Common.{◌≡◌, ℕ, zero, suc, ◌+◌, Bool, true, false, cond, List, [], ◌∷◌, ◌++◌, length, drop, Option, Some, None, refl, sym, ap, ◌∙◌, subst, arith}
 use Rattle.std.specs.Prelude.{◌&&◌, ◌||◌, not, option_and_then}
 use Rattle.std.specs.List.{AllPass, list_all}
+use Rattle.std.proofs.lemmas.Bool.{and_parts, and_from}
 use Rattle.std.proofs.lemmas.List.{append-nil}
 use Rattle.std.proofs.lemmas.List.Sums.{AllPass-from_list_all}
 use Rattle.std.proofs.lemmas.List.Elements.{All-nil, All-cons, All-head, All-tail}
@@ -93,11 +94,6 @@ may_left AtLeastOnce false t = absurd (omega arith)
 may_left AtLeastOnce true t = refl
 
 -- ---- tests
-
-pub and_parts : (a b : Bool) → (a && b) ≡ true → (a ≡ true) × (b ≡ true)
-and_parts true true e = (refl, refl)
-and_parts true false e = absurd cc
-and_parts false b e = absurd cc
 
 abbrev pub Taken : Slot → List Slot → Bool → Argument → Bool → Bool → Option (List Slot)
 Taken s row filled a t m = cond t (Some (s ∷ row)) (cond m None (next row false a))
@@ -194,9 +190,6 @@ clash_free true true b m e g h = h refl
 clash_free false true true m e g h = absurd cc
 clash_free false true false m e g h = absurd cc
 
-pub both_true : (a b : Bool) → a ≡ true → b ≡ true → (a && b) ≡ true
-both_true a b e g = ap (λ x. x && b) e ∙ g
-
 step_complete : (row : List Slot) (filled : Bool) (a : Argument) (args : List Argument) → is_clear row ≡ true → Left row filled (a ∷ args) → (left : List Slot) × (next row filled a ≡ Some left) × Left left true args
 step_complete [] filled a args c h = absurd cc
 step_complete (s ∷ row) filled a args c ([], rest, e, all, n, f) =
@@ -212,7 +205,7 @@ step_complete (s ∷ row) filled a args c (b ∷ run, rest, e, all, n, f) =
     let same : a ≡ b = cc in
     let others : args ≡ run ++ rest = cc in
     let t : takes s.takes a ≡ true = ap (takes s.takes) same ∙ All-head (Passes s.takes) b run all in
-    let passed = both_true (takes s.takes a) (not filled || is_many s.often) t (may_take s.often filled (length run) n) in
+    let passed = and_from (takes s.takes a) (not filled || is_many s.often) t (may_take s.often filled (length run) n) in
     (s ∷ row, ap (λ x. Taken s row filled a x (is_required s.often && not filled)) passed, (run, rest, others, All-tail (Passes s.takes) b run all, one_less s.often filled (length run) n, f))
 
 pub clear_next : (row : List Slot) (filled : Bool) (a : Argument) (left : List Slot) → next row filled a ≡ Some left → is_clear row ≡ true → is_clear left ≡ true

@@ -177,13 +177,10 @@ first_utf8 place place' text bytes t rest f a more u =
     let is : text ≡ a.first.blank.blanks ++ (a.token.piece.bytes ++ a.behind) = a.first.blank.whole ∙ ap (λ (x : List ℕ). a.first.blank.blanks ++ x) a.first.lexeme.whole in
     subst IsUtf8 (sym is) (utf8_all a.first.blank.blanks a.token.piece.bytes a.behind a.first.blank.all token (more parts.after))
 
-blank_utf8 : (text : List ℕ) → AllPass is_blank text → IsUtf8 text
-blank_utf8 text a = blanks_utf8 text a
-
 pub cut_alike : (ts : List Tok) (p : Before) (place place' : ℕ) (text bytes : List ℕ) → Free p → Condenses p text bytes → Cut place' bytes ts → Alike place text bytes ts
 cut_alike [] p place place' text bytes free h c =
     let blank = all_blank p text bytes h (subst (λ (l : List ℕ). AllPass is_blank l) (sym c.front.1) c.blank) in
-    record { tokens = []; cut = record { place' = place; rest = text; front = (refl, refl); blank = blank }; same = tt; utf8 = λ u. blank_utf8 text blank }
+    record { tokens = []; cut = record { place' = place; rest = text; front = (refl, refl); blank = blank }; same = tt; utf8 = λ u. blanks_utf8 text blank }
 cut_alike (t ∷ ts) p place place' text bytes free h c =
     let f = c.front.1 in
     let a = first_alike p place place' text bytes t c.front.0 free h f in

@@ -1,5 +1,6 @@
 -- Arguments that are alike denote the same fields.
-use Rattle.std.proofs.Common.{◌≡◌, ℕ, List, [], ◌∷◌, ◌++◌, length, map, Option, Some, None, Bool, true, false, refl, sym, ap, ◌∙◌, subst, arith}
+use Rattle.std.proofs.Common.{◌≡◌, ℕ, List, [], ◌∷◌, ◌++◌, length, map, Option, Some, None, true, refl, sym, ap, ◌∙◌, subst, arith}
+use Rattle.std.specs.Cmp.{both_ways}
 use Rattle.std.specs.List.{AllPass}
 use Rattle.crs_number.specs.Numeral.{Spells}
 use Rattle.crs_number.specs.Count.{is_count, SpellsWhole}
@@ -58,16 +59,11 @@ count_on a b s h =
     let c = count_from a h in
     count_to b (record { count = c.count; spelled = whole_again a b c.count s c.spelled; small = c.small })
 
-same_test : (s t : Bool) → (s ≡ true → t ≡ true) → (t ≡ true → s ≡ true) → s ≡ t
-same_test true t f g = sym (f refl)
-same_test false true f g = g refl
-same_test false false f g = refl
-
 shape_same : (x y : Bare) → Alike x y → shape y ≡ shape x
 shape_same (text a) y h = ap shape h
 shape_same (word a) y h = ap shape h
 shape_same (number a) y h =
-    let t : is_count h.0 ≡ is_count a = same_test (is_count h.0) (is_count a) (count_on h.0 a (turned a h.0 h.2)) (count_on a h.0 h.2) in
+    let t : is_count h.0 ≡ is_count a = both_ways (is_count h.0) (is_count a) (count_on h.0 a (turned a h.0 h.2)) (count_on a h.0 h.2) in
     ap shape h.1 ∙ rw (t) refl
 shape_same (node k xs) y h = ap shape h.1
 

@@ -15,6 +15,7 @@ use Rattle.crs_number.proofs.Forms.{form_bytes}
 use Rattle.wkt_write.specs.Alike.{SameNumber}
 use Rattle.wkt_tree.proofs.Sound.{quoted_begins, comma_begins, open_begins, close_begins, word_begins, number_begins}
 use Rattle.wkt_write.specs.Condensed.{Before, delimiter, quotation, other, is_delimiter, next, Shuts, Condenses, done, keep, leave, respell}
+use Rattle.wkt_write.proofs.Marks.{plain_is}
 
 -- the context is outside quoted texts
 abbrev pub Free : Before → Type 0
@@ -194,9 +195,6 @@ run p solid text (x ∷ xs) rest a h =
     run_more text x [] xs rest k.rest k.whole
     (run p solid k.rest xs rest (All-tail (λ z. p z ≡ true) x xs a) (subst (λ q. Condenses q k.rest (xs ++ rest)) (next_solid x s) k.condenses))
 
-not_mark : (b : ℕ) → (b ≡ 34 → ⊥) → is_mark b ≡ false
-not_mark b h = grind arith
-
 quoted_run : (text content rest : List ℕ) → Condenses quotation text (body content ++ 34 ∷ rest) → Run text (body content ++ 34 ∷ []) rest
 quoted_run text [] rest h =
     let k = kept_inside text 34 rest h in
@@ -213,7 +211,7 @@ quoted_run text (b ∷ content) rest h =
       | inr m ↦
           let e = body-plain b content m.1 in
           let k = kept_inside text b (body content ++ 34 ∷ rest) (subst (λ (l : List ℕ). Condenses quotation text (l ++ 34 ∷ rest)) e h) in
-          let at : next quotation b ≡ quotation = ap (λ t. cond t other quotation) (not_mark b m.0) in
+          let at : next quotation b ≡ quotation = ap (λ t. cond t other quotation) (plain_is b m.0) in
           subst (λ (l : List ℕ). Run text (l ++ 34 ∷ []) rest) (sym e)
           (run_more text b [] (body content ++ 34 ∷ []) rest k.rest k.whole
           (quoted_run k.rest content rest (subst (λ q. Condenses q k.rest (body content ++ 34 ∷ rest)) at k.condenses)))

@@ -5,10 +5,11 @@ use Rattle.std.specs.List.{flat_map, position_from}
 use Rattle.std.proofs.lemmas.List.{replicate-append-replicate}
 use Rattle.std.proofs.lemmas.List.Quantifiers.{position-Some}
 use Rattle.std.proofs.lemmas.Iterator.Adapters.{position_from-zero}
+use Rattle.std.proofs.lemmas.Option.{none-some}
 use Rattle.wkt_tree.specs.Tokens.{doubled, is_mark}
 use Rattle.wkt_tree.proofs.Lexemes.{by_mark, body-plain}
 
-plain_is : (b : ℕ) → (b ≡ 34 → ⊥) → is_mark b ≡ false
+pub plain_is : (b : ℕ) → (b ≡ 34 → ⊥) → is_mark b ≡ false
 plain_is b h = grind arith
 
 mark_is : (b : ℕ) → is_mark b ≡ true → b ≡ 34
@@ -34,12 +35,9 @@ unmarked_from : (i : ℕ) (xs : List ℕ) → position_from is_mark i xs ≡ Non
 unmarked_from i [] e = refl
 unmarked_from i (x ∷ xs) e =
     elim (by_mark x) [
-      | inl m ↦ let is : is_mark x ≡ true = ap is_mark m.0 in absurd (some_none i (sym (rw is refl) ∙ e))
+      | inl m ↦ let is : is_mark x ≡ true = ap is_mark m.0 in absurd (none-some i (sym e ∙ rw is refl))
       | inr n ↦ body-plain x xs n.1 ∙ ap (λ (l : List ℕ). x ∷ l) (unmarked_from (i + 1) xs (sym (rw (plain_is x n.0) refl) ∙ e))
     ]
-  where
-    some_none : (j : ℕ) → Some j ≡ None → ⊥
-    some_none j h = cc
 
 -- doubling marks does not change bytes without a mark
 pub no_mark : (xs : List ℕ) → position is_mark xs ≡ None → flat_map doubled xs ≡ xs

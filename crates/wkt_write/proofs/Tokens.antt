@@ -1,8 +1,9 @@
 -- Names, numbers and texts are tokens.
-use Rattle.std.proofs.Common.{◌≡◌, ℕ, ◌+◌, ◌%◌, ◌<◌, ◌^◌, Bool, true, false, ◌&&◌, Some, List, [], ◌∷◌, ◌++◌, length, decimal, refl, sym, ap, ◌∙◌, subst, ⊎_elim, arith, ℤ, pos, unsigned_abs}
+use Rattle.std.proofs.Common.{◌≡◌, ℕ, ◌+◌, ◌%◌, ◌<◌, ◌^◌, Bool, true, false, Some, List, [], ◌∷◌, ◌++◌, length, decimal, refl, sym, ap, ◌∙◌, subst, ⊎_elim, arith, ℤ, pos, unsigned_abs}
 use Rattle.std.specs.List.{list_all, AllPass}
 use Rattle.std.specs.Str.Parse.{AllDigits}
 use Rattle.std.specs.Char.{is_ascii_alphabetic, is_ascii_digit, digit_value}
+use Rattle.std.proofs.lemmas.Bool.{and_parts}
 use Rattle.std.proofs.lemmas.Bool.Decides.{nat_tests}
 use Rattle.std.proofs.lemmas.List.Elements.{All-nil, All-cons, All-append, All-tail}
 use Rattle.std.proofs.lemmas.List.Sums.{AllPass-from_list_all}
@@ -18,10 +19,6 @@ use Rattle.wkt_tree.specs.Bytes.{is_word_byte, is_number_byte, begun_by}
 use Rattle.wkt_tree.specs.Tokens.{IsNumber, quoted}
 use Rattle.wkt_write.specs.WellFormed.{IsToken, IsText, is_name}
 
-both : (a b : Bool) → a && b ≡ true → (a ≡ true) × (b ≡ true)
-both true b h = (refl, h)
-both false b h = absurd (cc)
-
 begun : (b : ℕ) → is_ascii_alphabetic b ≡ true → begun_by b ≡ Some Word
 unfolding begun_by
 begun b h = rw h refl
@@ -29,7 +26,7 @@ begun b h = rw h refl
 pub word_token : (b : List ℕ) → is_name b ≡ true → IsToken Word b
 word_token [] h = absurd (cc)
 word_token (b ∷ bs) h =
-    let parts = both (is_ascii_alphabetic b) (list_all is_word_byte bs) h in
+    let parts = and_parts (is_ascii_alphabetic b) (list_all is_word_byte bs) h in
     record { first = b; others = bs; parts = refl; begun = begun b parts.0; follow = AllPass-from_list_all is_word_byte bs parts.1; readable = tt }
 
 pub text_is : (t : Text) → IsText (quoted t.bytes)

@@ -1,13 +1,11 @@
 -- The text of a tree is UTF-8.
-use Rattle.std.proofs.Common.{◌≡◌, ℕ, zero, suc, ◌<◌, ◌≤◌, Bool, true, false, ◌&&◌, List, [], ◌∷◌, ◌++◌, length, get_or, refl, sym, ap, ◌∙◌, subst, ⊎_elim, arith, append-nil, IsUtf8}
+use Rattle.std.proofs.Common.{◌≡◌, ℕ, zero, suc, ◌<◌, ◌≤◌, true, List, [], ◌∷◌, ◌++◌, length, get_or, refl, sym, ap, ◌∙◌, subst, ⊎_elim, arith, append-nil, IsUtf8}
 use Rattle.std.specs.Prelude.{◌⊎◌}
 use Rattle.std.specs.List.{AllPass, flat_map}
-use Rattle.std.specs.Str.{IsAscii}
 use lib.Utf8.{scalars, scalar, encodes, encode}
 use Rattle.std.proofs.lemmas.List.Concat.{flat_map-append}
-use Rattle.std.proofs.lemmas.List.Elements.{All-head, All-tail}
-use Rattle.std.proofs.lemmas.Str.{IsUtf8-nil, IsUtf8-append, IsUtf8-from_ascii, encode_ascii, inside_one}
-use Rattle.std.proofs.lemmas.Bool.{cases_lt}
+use Rattle.std.proofs.lemmas.Str.{IsUtf8-nil, IsUtf8-append, encode_ascii, inside_one, IsUtf8-encode}
+use Rattle.std.proofs.lemmas.Bool.{cases_lt, and_parts}
 use Rattle.wkt_tree.specs.declared.token.TokenKind.TheVariants.{Word, Number}
 use Rattle.wkt_tree.specs.Bytes.{is_blank, is_word_byte, is_number_byte}
 use Rattle.wkt_tree.specs.Tokens.{doubled, quoted}
@@ -18,16 +16,10 @@ use Rattle.wkt_write.specs.WellFormed.{IsToken, WellFormed, AllWellFormed}
 use Rattle.wkt_write.specs.declared.layout.Layout as layouts
 use Rattle.wkt_write.specs.Layout.{before, inner, laid, laid_all, laid_behind}
 use Rattle.wkt_write.proofs.Placing.{before_blank}
-
-one_ascii : (b : ℕ) → b < 128 → IsAscii (b ∷ [])
-one_ascii b h zero = h
-one_ascii b h (suc k) = omega arith
+use Rattle.wkt_write.proofs.TokenUtf8.{ascii_cons, ascii_all}
 
 ascii_one : (b : ℕ) → b < 128 → IsUtf8 (b ∷ [])
-ascii_one b h = IsUtf8-from_ascii (b ∷ []) (one_ascii b h)
-
-ascii_cons : (b : ℕ) (bs : List ℕ) → b < 128 → IsUtf8 bs → IsUtf8 (b ∷ bs)
-ascii_cons b bs h u = IsUtf8-append (b ∷ []) bs (ascii_one b h) u
+ascii_one b h = ascii_cons b [] h IsUtf8-nil
 
 -- ---- quoted texts
 
@@ -42,26 +34,19 @@ undoubled (x ∷ xs) h = ⊎_elim
 no_mark_inside : (c : ℕ) → 128 ≤ c → flat_map doubled (encode c) ≡ encode c
 no_mark_inside c h = undoubled (encode c) (λ k below is. omega (arith, h, is, inside_one c [] (encode c) k (sym (append-nil (encode c))) below (omega (arith, is))))
 
-both : (a b : Bool) → a && b ≡ true → (a ≡ true) × (b ≡ true)
-both true b h = (refl, h)
-both false b h = absurd (cc)
-
-char_utf8 : (c : ℕ) → scalar c ≡ true → IsUtf8 (encode c)
-char_utf8 c s = (c ∷ [], (rw s refl, append-nil (encode c)))
-
 doubled_char : (c : ℕ) → scalar c ≡ true → IsUtf8 (flat_map doubled (encode c))
 doubled_char c s = ⊎_elim
     (λ small. rw (encode_ascii c small) (⊎_elim
     (λ m. subst IsUtf8 (sym (ap (λ (l : List ℕ). l ++ []) m.1)) (ascii_cons 34 (34 ∷ []) (omega arith) (ascii_one 34 (omega arith))))
     (λ n. subst IsUtf8 (sym (ap (λ (l : List ℕ). l ++ []) n.1)) (ascii_one c small))
     (by_mark c)))
-    (λ large. rw (no_mark_inside c large) (char_utf8 c s))
+    (λ large. rw (no_mark_inside c large) (IsUtf8-encode c s))
     (cases_lt c 128)
 
 doubled_chars : (cs : List ℕ) → scalars cs ≡ true → IsUtf8 (flat_map doubled (encodes cs))
 doubled_chars [] s = IsUtf8-nil
 doubled_chars (c ∷ cs) s =
-    let parts = both (scalar c) (scalars cs) s in
+    let parts = and_parts (scalar c) (scalars cs) s in
     subst IsUtf8 (sym (flat_map-append doubled (encode c) (encodes cs)))
     (IsUtf8-append (flat_map doubled (encode c)) (flat_map doubled (encodes cs)) (doubled_char c parts.0) (doubled_chars cs parts.1))
 
@@ -72,21 +57,17 @@ quoted_utf8 content u =
 
 -- ---- blanks, words and numbers
 
-small_utf8 : (p : ℕ → Bool) → ((b : ℕ) → p b ≡ true → b < 128) → (xs : List ℕ) → AllPass p xs → IsUtf8 xs
-small_utf8 p small [] a = IsUtf8-nil
-small_utf8 p small (x ∷ xs) a = ascii_cons x xs (small x (All-head (λ b. p b ≡ true) x xs a)) (small_utf8 p small xs (All-tail (λ b. p b ≡ true) x xs a))
-
 word_utf8 : (b : List ℕ) → IsToken Word b → IsUtf8 b
-word_utf8 b t = subst IsUtf8 (sym t.parts) (ascii_cons t.first t.others (begun_small t.first Word t.begun) (small_utf8 is_word_byte word_small t.others t.follow))
+word_utf8 b t = subst IsUtf8 (sym t.parts) (ascii_cons t.first t.others (begun_small t.first Word t.begun) (ascii_all is_word_byte word_small t.others t.follow))
 
 number_utf8 : (b : List ℕ) → IsToken Number b → IsUtf8 b
-number_utf8 b t = subst IsUtf8 (sym t.parts) (ascii_cons t.first t.others (begun_small t.first Number t.begun) (small_utf8 is_number_byte number_small t.others t.follow))
+number_utf8 b t = subst IsUtf8 (sym t.parts) (ascii_cons t.first t.others (begun_small t.first Number t.begun) (ascii_all is_number_byte number_small t.others t.follow))
 
 -- ---- trees
 
 node_utf8 : (blanks k inside : List ℕ) → AllPass is_blank blanks → IsToken Word k → IsUtf8 inside → IsUtf8 (blanks ++ (k ++ (91 ∷ (inside ++ 93 ∷ []))))
 node_utf8 blanks k inside b t u =
-    IsUtf8-append blanks (k ++ (91 ∷ (inside ++ 93 ∷ []))) (small_utf8 is_blank blank_small blanks b)
+    IsUtf8-append blanks (k ++ (91 ∷ (inside ++ 93 ∷ []))) (ascii_all is_blank blank_small blanks b)
     (IsUtf8-append k (91 ∷ (inside ++ 93 ∷ [])) (word_utf8 k t)
     (ascii_cons 91 (inside ++ 93 ∷ []) (omega arith) (IsUtf8-append inside (93 ∷ []) u (ascii_one 93 (omega arith)))))
 

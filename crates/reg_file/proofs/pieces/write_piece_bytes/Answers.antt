@@ -1,14 +1,8 @@
-use Rattle.std.proofs.Common.{ℕ, ◌≡◌, ◌≤◌, ◌<◌, ◌^◌, length, ◌∙◌, refl, arith}
+use Rattle.std.proofs.Common.{length, ◌∙◌, refl, arith}
 use Rattle.reg_file.specs.Layout.{piece_file}
-use Rattle.reg_file.specs.Files.{most}
 use Rattle.reg_file.proofs.PieceLemmas.{file_long, file_of, not_large}
+use Rattle.reg_file.proofs.LongLemmas.{within_most, few_parts}
 use Rattle.reg_file.proofs.pieces.write_piece_bytes.Goals as goal
-
-fits : (n size : ℕ) → size ≡ n → size ≤ 67108864 → n ≤ most
-fits n size e h = omega arith
-
-few : (k n size : ℕ) → size ≡ n → size ≤ 67108864 → k ≤ n → k < 2 ^ 32
-few k n size e h le = omega arith
 
 pub returns-in_default-clause-large : goal.returns-in_default-clause-large
 returns-in_default-clause-large c =
@@ -24,21 +18,21 @@ spell_piece-requires-clause-basis c =
     let bs = c.runs-basis.result.now in
     let os = c.ops-ops.result.now in
     let rs = c.runs-runs.result.now in
-    few (length bs) (length (piece_file 2 bs os rs)) c.in-Some.size c.in-Some.ensures.some.0 c.in-Some.ensures.some.1 (file_long 2 bs os rs).basis
+    few_parts (length bs) (length (piece_file 2 bs os rs)) c.in-Some.size c.in-Some.ensures.some.0 c.in-Some.ensures.some.1 (file_long 2 bs os rs).basis
 
 pub spell_piece-requires-clause-ops : goal.spell_piece-requires-clause-ops
 spell_piece-requires-clause-ops c =
     let bs = c.runs-basis.result.now in
     let os = c.ops-ops.result.now in
     let rs = c.runs-runs.result.now in
-    few (length os) (length (piece_file 2 bs os rs)) c.in-Some.size c.in-Some.ensures.some.0 c.in-Some.ensures.some.1 (file_long 2 bs os rs).ops
+    few_parts (length os) (length (piece_file 2 bs os rs)) c.in-Some.size c.in-Some.ensures.some.0 c.in-Some.ensures.some.1 (file_long 2 bs os rs).ops
 
 pub spell_piece-requires-clause-runs : goal.spell_piece-requires-clause-runs
 spell_piece-requires-clause-runs c =
     let bs = c.runs-basis.result.now in
     let os = c.ops-ops.result.now in
     let rs = c.runs-runs.result.now in
-    few (length rs) (length (piece_file 2 bs os rs)) c.in-Some.size c.in-Some.ensures.some.0 c.in-Some.ensures.some.1 (file_long 2 bs os rs).seen
+    few_parts (length rs) (length (piece_file 2 bs os rs)) c.in-Some.size c.in-Some.ensures.some.0 c.in-Some.ensures.some.1 (file_long 2 bs os rs).seen
 
 pub returns-in-Ok-clause-large : goal.returns-in-Ok-clause-large
 returns-in-Ok-clause-large c =
@@ -47,7 +41,7 @@ returns-in-Ok-clause-large c =
     let os = c.ops-ops.result.now in
     let rs = c.runs-runs.result.now in
     let f = file_of p bs os rs c.ops-ops.ensures.items c.runs-basis.ensures.runs (c.runs-basis.ensures.all ∙ c.basis.ensures.value) c.runs-runs.ensures.runs (c.runs-runs.ensures.all ∙ c.seen.ensures.value) in
-    (λ e. absurd cc, λ t. absurd (not_large p (piece_file 2 bs os rs) f (fits (length (piece_file 2 bs os rs)) c.in-Some.size c.in-Some.ensures.some.0 c.in-Some.ensures.some.1) t))
+    (λ e. absurd cc, λ t. absurd (not_large p (piece_file 2 bs os rs) f (within_most (length (piece_file 2 bs os rs)) c.in-Some.size c.in-Some.ensures.some.0 c.in-Some.ensures.some.1) t))
 
 pub returns-in-Err-clause-large : goal.returns-in-Err-clause-large
 returns-in-Err-clause-large c =
@@ -56,4 +50,4 @@ returns-in-Err-clause-large c =
     let os = c.ops-ops.result.now in
     let rs = c.runs-runs.result.now in
     let f = file_of p bs os rs c.ops-ops.ensures.items c.runs-basis.ensures.runs (c.runs-basis.ensures.all ∙ c.basis.ensures.value) c.runs-runs.ensures.runs (c.runs-runs.ensures.all ∙ c.seen.ensures.value) in
-    (λ e. absurd cc, λ t. absurd (not_large p (piece_file 2 bs os rs) f (fits (length (piece_file 2 bs os rs)) c.in-Some.size c.in-Some.ensures.some.0 c.in-Some.ensures.some.1) t))
+    (λ e. absurd cc, λ t. absurd (not_large p (piece_file 2 bs os rs) f (within_most (length (piece_file 2 bs os rs)) c.in-Some.size c.in-Some.ensures.some.0 c.in-Some.ensures.some.1) t))

@@ -1,30 +1,24 @@
-use Rattle.std.proofs.Common.{ℕ, ◌≡◌, ◌≤◌, ◌<◌, ◌^◌, length, arith}
+use Rattle.std.proofs.Common.{length, arith}
 use Rattle.reg_file.specs.Layout.{seen_file}
-use Rattle.reg_file.specs.Files.{most}
 use Rattle.reg_file.proofs.SummaryLemmas.{file_long, file_of, not_large}
+use Rattle.reg_file.proofs.LongLemmas.{within_most, few_parts}
 use Rattle.reg_file.proofs.summaries.write_seen_bytes.Goals as goal
-
-fits : (n size : ℕ) → size ≡ n → size ≤ 67108864 → n ≤ most
-fits n size e h = omega arith
-
-few : (k n size : ℕ) → size ≡ n → size ≤ 67108864 → k ≤ n → k < 2 ^ 32
-few k n size e h le = omega arith
 
 pub spell_seen-requires : goal.spell_seen-requires
 spell_seen-requires c =
     let rs = c.runs-runs.result.now in
-    few (length rs) (length (seen_file 2 rs)) c.in-Some.size c.in-Some.ensures.some.0 c.in-Some.ensures.some.1 (file_long 2 rs)
+    few_parts (length rs) (length (seen_file 2 rs)) c.in-Some.size c.in-Some.ensures.some.0 c.in-Some.ensures.some.1 (file_long 2 rs)
 
 pub returns-in-Ok-clause-large : goal.returns-in-Ok-clause-large
 returns-in-Ok-clause-large c =
     let ids = c.args.seen.now in
     let rs = c.runs-runs.result.now in
     let f = file_of ids rs c.runs-runs.ensures.runs c.runs-runs.ensures.all in
-    (λ e. absurd cc, λ t. absurd (not_large ids (seen_file 2 rs) f (fits (length (seen_file 2 rs)) c.in-Some.size c.in-Some.ensures.some.0 c.in-Some.ensures.some.1) t))
+    (λ e. absurd cc, λ t. absurd (not_large ids (seen_file 2 rs) f (within_most (length (seen_file 2 rs)) c.in-Some.size c.in-Some.ensures.some.0 c.in-Some.ensures.some.1) t))
 
 pub returns-in-Err-clause-large : goal.returns-in-Err-clause-large
 returns-in-Err-clause-large c =
     let ids = c.args.seen.now in
     let rs = c.runs-runs.result.now in
     let f = file_of ids rs c.runs-runs.ensures.runs c.runs-runs.ensures.all in
-    (λ e. absurd cc, λ t. absurd (not_large ids (seen_file 2 rs) f (fits (length (seen_file 2 rs)) c.in-Some.size c.in-Some.ensures.some.0 c.in-Some.ensures.some.1) t))
+    (λ e. absurd cc, λ t. absurd (not_large ids (seen_file 2 rs) f (within_most (length (seen_file 2 rs)) c.in-Some.size c.in-Some.ensures.some.0 c.in-Some.ensures.some.1) t))

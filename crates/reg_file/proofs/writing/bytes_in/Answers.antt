@@ -1,15 +1,9 @@
-use Rattle.std.proofs.Common.{ℕ, ◌≡◌, ◌≤◌, ◌<◌, ◌^◌, length, ◌∙◌, refl, arith}
+use Rattle.std.proofs.Common.{length, ◌∙◌, refl, arith}
 use Rattle.reg_file.specs.Layout.{register_file}
-use Rattle.reg_file.specs.Files.{most}
 use Rattle.reg_file.proofs.HoldLemmas.{file_long}
 use Rattle.reg_file.proofs.SizeLemmas.{file_of, not_large}
+use Rattle.reg_file.proofs.LongLemmas.{within_most, few_parts}
 use Rattle.reg_file.proofs.writing.bytes_in.Goals as goal
-
-fits : (n size : ℕ) → size ≡ n → size ≤ 67108864 → n ≤ most
-fits n size e h = omega arith
-
-few : (k n size : ℕ) → size ≡ n → size ≤ 67108864 → k ≤ n → k < 2 ^ 32
-few k n size e h le = omega arith
 
 pub returns-in_default-clause-large : goal.returns-in_default-clause-large
 returns-in_default-clause-large c =
@@ -23,25 +17,25 @@ spell-requires-clause-ops c =
     let os = c.as_slice-ops.result.now in
     let rs = c.runs-runs.result.now in
     let long = (file_long c.args.version os rs).ops in
-    few (length os) (length (register_file c.args.version os rs)) c.in-Some.size c.in-Some.ensures.some.0 c.in-Some.ensures.some.1 long
+    few_parts (length os) (length (register_file c.args.version os rs)) c.in-Some.size c.in-Some.ensures.some.0 c.in-Some.ensures.some.1 long
 
 pub spell-requires-clause-runs : goal.spell-requires-clause-runs
 spell-requires-clause-runs c =
     let os = c.as_slice-ops.result.now in
     let rs = c.runs-runs.result.now in
     let long = (file_long c.args.version os rs).seen in
-    few (length rs) (length (register_file c.args.version os rs)) c.in-Some.size c.in-Some.ensures.some.0 c.in-Some.ensures.some.1 long
+    few_parts (length rs) (length (register_file c.args.version os rs)) c.in-Some.size c.in-Some.ensures.some.0 c.in-Some.ensures.some.1 long
 
 pub returns-in-Ok-clause-large : goal.returns-in-Ok-clause-large
 returns-in-Ok-clause-large c =
     let os = c.as_slice-ops.result.now in
     let rs = c.runs-runs.result.now in
     let f = file_of c.args.version c.args.register.now os rs (c.as_slice-ops.ensures ∙ c.ops.ensures.items) c.runs-runs.ensures.runs (c.runs-runs.ensures.all ∙ c.seen.ensures.value) in
-    (λ e. absurd cc, λ t. absurd (not_large c.args.version c.args.register.now (register_file c.args.version os rs) f (fits (length (register_file c.args.version os rs)) c.in-Some.size c.in-Some.ensures.some.0 c.in-Some.ensures.some.1) t))
+    (λ e. absurd cc, λ t. absurd (not_large c.args.version c.args.register.now (register_file c.args.version os rs) f (within_most (length (register_file c.args.version os rs)) c.in-Some.size c.in-Some.ensures.some.0 c.in-Some.ensures.some.1) t))
 
 pub returns-in-Err-clause-large : goal.returns-in-Err-clause-large
 returns-in-Err-clause-large c =
     let os = c.as_slice-ops.result.now in
     let rs = c.runs-runs.result.now in
     let f = file_of c.args.version c.args.register.now os rs (c.as_slice-ops.ensures ∙ c.ops.ensures.items) c.runs-runs.ensures.runs (c.runs-runs.ensures.all ∙ c.seen.ensures.value) in
-    (λ e. absurd cc, λ t. absurd (not_large c.args.version c.args.register.now (register_file c.args.version os rs) f (fits (length (register_file c.args.version os rs)) c.in-Some.size c.in-Some.ensures.some.0 c.in-Some.ensures.some.1) t))
+    (λ e. absurd cc, λ t. absurd (not_large c.args.version c.args.register.now (register_file c.args.version os rs) f (within_most (length (register_file c.args.version os rs)) c.in-Some.size c.in-Some.ensures.some.0 c.in-Some.ensures.some.1) t))

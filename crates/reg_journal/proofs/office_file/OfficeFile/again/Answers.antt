@@ -1,4 +1,4 @@
-use Rattle.std.proofs.Common.{◌≡◌, ◌⊎◌, ◌<◌, ◌∙◌, ℕ, rules, length, sym, subst, false, inl, inr, arith}
+use Rattle.std.proofs.Common.{◌≡◌, ◌<◌, ◌∙◌, rules, length, sym, subst, false, inl, inr, arith, eq-zero-or-pos}
 use Rattle.reg_office.specs.Making.{greatest}
 use Rattle.reg_journal.specs.Again.{is_again}
 use Rattle.reg_journal.proofs.LateLemmas.{none_of_none, none_fits, none_beyond, none_at_zero}
@@ -26,11 +26,8 @@ loop-first-init c =
     }
 
 pub returns : goal.returns
-returns c = λ m. elim (zero_or m) [
+returns c = λ m. elim (eq-zero-or-pos m) [
   | inl e ↦ subst (λ n. is_again c.args.seen.now c.args.joined.now.ops c.args.self.now.replica c.args.note.now c.args.effects.now n ≡ false) (sym e)
       (none_at_zero c.args.seen.now c.args.joined.now c.args.self.now.replica c.args.note.now c.seen.ensures.content c.args.effects.now)
   | inr h ↦ c.loop-first.invariant.above m (omega arith)
 ]
-  where
-    zero_or : (m : ℕ) → (m ≡ 0) ⊎ (0 < m)
-    zero_or m = grind arith

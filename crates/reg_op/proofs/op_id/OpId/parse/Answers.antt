@@ -3,6 +3,7 @@ use Rattle.std.specs.Str.Parse.{digits_value}
 use Rattle.std.proofs.lemmas.Fmt.{decimal_is_IsNumeral}
 use Rattle.std.proofs.Common.{arith, ◌∷◌, ◌<◌, ◌^◌, ◌↔◌, Option, Some, None, IsSome, IfSome, ◌≡◌, List, ℕ, take, drop, false, true, sym, ◌∙◌, ap, subst}
 use Rattle.std.proofs.lemmas.List.{take_at, drop_at}
+use Rattle.std.proofs.lemmas.Option.{same_Some}
 use Rattle.uuid.specs.Text.{parsed}
 use Rattle.reg_op.specs.Ids.{Id}
 use Rattle.reg_op.specs.Text.{Spells, IsCount}
@@ -27,14 +28,11 @@ returns-in_default-count_of-clause-only c = λ i h.
 pub returns-clause-only : goal.returns-clause-only
 returns-clause-only c = λ i h.
     made c.new.result i c.in-Ok.replica c.in-Some.count c.new.ensures.some c.new.ensures.value
-    (some_same _ _ (c.in-Ok.ensures.bytes ∙ ap parsed (c.split_at.ensures.front ∙ front_is c.args.text.now i h) ∙ h.replica_is))
+    (same_Some _ _ (c.in-Ok.ensures.bytes ∙ ap parsed (c.split_at.ensures.front ∙ front_is c.args.text.now i h) ∙ h.replica_is))
     (one_count (c.split_at.result.1.now) c.in-Some.count i.count c.in-Some.ensures.found
     (let P : List ℕ → Type 0 = λ t. IsCount t i.count in subst P (sym (c.split_at.ensures.back ∙ back_is c.args.text.now i h)) h.count_is))
     h.count_is.numeral.positive
   where
-    some_same : (a b : List ℕ) → ◌≡◌ {A = Option (List ℕ)} (Some a) (Some b) → a ≡ b
-    some_same a b h = cc
-
     one_rest : (a b : List ℕ) → ◌≡◌ {A = List ℕ} (58 ∷ a) (58 ∷ b) → a ≡ b
     one_rest a b h = cc
 
