@@ -74,7 +74,7 @@ grouped_long (r ∷ rs) =
     let rest = grouped_long rs in
     omega arith
 
--- a file whose size is told is not too large, and has few parts
+-- a file whose size is given is not too large, and has few parts
 pub within_most : (n size : ℕ) → size ≡ n → size ≤ 67108864 → n ≤ most
 within_most n size e h = omega arith
 

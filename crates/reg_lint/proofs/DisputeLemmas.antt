@@ -113,7 +113,7 @@ claims_all : (rule : WideRule) (ss : List Subject) → all_claims (map (voice_of
 claims_all rule [] = refl
 claims_all rule (s ∷ ss) = ap (λ l. claims_by rule s ++ l) (claims_all rule ss)
 
--- ---- what is told
+-- ---- what is reported
 
 abbrev pub no_detail : Subject → Option (List ℕ)
 no_detail s = None
@@ -158,7 +158,7 @@ module _ (d : Disputes) (ss : List Subject) (settled : AreSettled d ss) where
     none_told wide.SameName names us v = ap (first_told (other_told us)) (nothing v.claims)
     none_told wide.Twin names us v = ap (first_told (twin_told us (sifted (is_open d rule) v))) (nothing v.claims)
 
-    -- nothing is told of no word
+    -- nothing is reported of no word
     pub silent : map (λ (s : Subject). None) ss ≡ wide_details rule ss
     silent =
         let vs = map (voice_of rule) ss in

@@ -86,7 +86,7 @@ fits_first w xs x c e fits = fits_same w xs x c e (none xs fits)
         let p = or_parts (is_about w y) (list_any (is_about w) ys) f in
         or_from (is_other w c.items y) (list_any (is_other w c.items) ys) (λ j. p.0 j && not (bytes_eq y.content c.items)) (none ys p.1)
 
--- ---- what is told of a claim beside the first one
+-- ---- what is reported of a claim beside the first one
 
 abbrev is_first : Standing → Bool
 is_first standing.First = true
