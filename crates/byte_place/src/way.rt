@@ -4,7 +4,6 @@ use byte_out::{Lock, Lockable};
 use std::alloc::{AllocError, Global};
 use std::fs;
 use std::io::ErrorKind;
-use std::os::unix::fs::MetadataExt;
 use std::rt::Files;
 
 /// Where a path leads.
@@ -60,11 +59,11 @@ pub(crate) enum Kind {
     Unknown,
 }
 
-/// What has the name. A file without a name is a mount of its own whose file outside was replaced: what is written to it would be lost.
+/// What has the name. Whether a plain file has one, which a mount of its own has not whose file outside was replaced, is what the place
+/// of the new file looks at.
 pub(crate) fn kind_at<R: Files>(rt: &R, path: &str) -> Kind {
     match fs::symlink_metadata(rt, path) {
-        Ok(there) if there.is_file() && there.nlink() > 0 => Kind::Plain,
-        Ok(there) if there.is_file() => Kind::Unknown,
+        Ok(there) if there.is_file() => Kind::Plain,
         Ok(_) => Kind::Other,
         Err(error) if error.kind() == ErrorKind::NotFound && !path.is_empty() => Kind::Nothing,
         Err(_) => Kind::Unknown,

@@ -11,6 +11,13 @@ use std::fs::{self, File, Metadata, OpenFile, OpenOptions, TryLockError};
 use std::io::{ErrorKind, Read, Write};
 use std::os::unix::fs::{MetadataExt, OpenOptionsExt};
 use std::str;
+use std::thread::sleep;
+use std::time::Duration;
+
+/// How often a file without a name is looked at, and how many milliseconds the pause after each look takes.
+const LOOKS: usize = 50;
+
+const PAUSE: u64 = 5;
 
 impl HostSystem<'_> {
     // The number of an open file.
@@ -29,13 +36,21 @@ impl HostSystem<'_> {
         Some(number)
     }
 
-    /// What has the name; none if it could not be looked at.
+    /// What has the name; none if it could not be looked at. While another process renames a file over it, the system may answer for
+    /// the old file, which has no name any more. So a file without a name is looked at again for a while.
     pub(crate) fn found_at(&self, path: &[u8]) -> Option<There> {
-        match fs::symlink_metadata(self.rt, str::from_utf8(path).ok()?) {
-            Ok(there) => there_is(&there),
-            Err(error) if error.kind() == ErrorKind::NotFound => Some(There::Nothing),
-            Err(_) => None,
+        let path = str::from_utf8(path).ok()?;
+        for _ in 0..LOOKS {
+            match fs::symlink_metadata(self.rt, path) {
+                Ok(there) => match there_is(&there) {
+                    None => sleep(self.rt, Duration::from_millis(PAUSE)),
+                    found => return found,
+                },
+                Err(error) if error.kind() == ErrorKind::NotFound => return Some(There::Nothing),
+                Err(_) => return None,
+            }
         }
+        None
     }
 
     /// Whether the open file is open to the same people as the one with the name from now on; none if it could not be changed.
