@@ -27,11 +27,10 @@ use Rattle.reg_desk.specs.declared.import.options.ImportOptions.{ImportOptions}
 use Rattle.reg_desk.specs.declared.import.fault.ImportFault.{ImportFault}
 use Rattle.reg_desk.specs.declared.import.fault.ImportFault.TheVariants as import
 use Rattle.reg_desk.specs.declared.import.fault.Unimported.{Unimported}
-use Rattle.reg_desk.specs.ImportTexts.{TextAt, AreRead, kept_if, HaveTexts, AreGiven}
+use Rattle.reg_desk.specs.ImportTexts.{TextAt, AreRead, HaveTexts, AreGiven}
 use Rattle.reg_desk.specs.ImportLinks.{IsOnlyImported}
 use Rattle.reg_desk.specs.ImportNotes.{note_of}
 use Rattle.reg_desk.specs.Import.{names_of, IsAgainst, if_explained, note_at, all_notes, IsRefusedAt, IsPassed, MakesOf, Makes, IsUncounted, TakesMemory, IsRefusedBy, IsUnmadeOf, IsFaultOf, EndsAtFirst, IsUnmade, IsPlain}
-use Rattle.reg_desk.proofs.ImportTextLemmas.{all_kept}
 use Rattle.reg_desk.proofs.SameTexts.{same_reading, one_cuts, one_read}
 
 -- ---- the first of all readings
@@ -207,31 +206,3 @@ given_made o first x y files cuts texts lines passed (inr (ends, b)) (ts, links,
 pub given_unmade : (o : ImportOptions) (first : ℕ) (x : Content) (files : List (List ℕ)) (cuts : List TextAt) (texts : List FileText) (u : Unimported) → AreGiven o.keep_going files cuts texts
     → IsUnmadeOf o first x files cuts texts u → IsUnmade o first x files u
 given_unmade o first x files cuts texts u given h = inr (cuts, texts, given, h)
-
--- ---- texts that are kept only if they are explained
-
-same_note : (b : Bool) (F : List TextAt → List ℕ) (cuts : List TextAt) → cond b (F (kept_if b cuts)) [] ≡ cond b (F cuts) []
-same_note true F cuts = ap F (all_kept cuts)
-same_note false F cuts = refl
-
-module _ (o : ImportOptions) (first : ℕ) (files : List (List ℕ)) (cuts kept : List TextAt) (texts : List FileText) (is : kept ≡ kept_if o.explain cuts) where
-  note_kept : (F : List TextAt → List ℕ) → if_explained o (F kept) ≡ if_explained o (F cuts)
-  note_kept F = ap (λ l. if_explained o (F l)) is ∙ same_note o.explain F cuts
-
-  passed_kept : (ts : List TextAction) (p : Option Unimported) → IsPassed o first files kept texts ts p → IsPassed o first files cuts texts ts p
-  passed_kept ts None h = h
-  passed_kept ts (Some u) h = (h.0, h.1, h.2, h.3, h.4 ∙ note_kept (λ l. all_notes o files l ts))
-
-  by_kept : (r : ImportRefusal) (u : Unimported) → IsRefusedBy o first files kept texts r u → IsRefusedBy o first files cuts texts r u
-  by_kept refused.NoteTooLong u h = h
-  by_kept (refused.Refused i p) u (inl at) = inl (at.0, at.1 ∙ note_kept (λ l. note_at o files l i p))
-  by_kept (refused.Refused i p) u (inr memory) = inr memory
-  by_kept refused.CountSpent u h = h
-  by_kept refused.Memory u h = h
-
-  pub made_kept : (x y : Content) (lines : List ℕ) (passed : Option Unimported) → MakesOf o first x files kept texts y lines passed → MakesOf o first x files cuts texts y lines passed
-  made_kept x y lines passed (ts, links, linked, are, over) = (ts, links, linked, are, passed_kept ts passed over)
-
-  pub unmade_kept : (x : Content) (u : Unimported) → IsUnmadeOf o first x files kept texts u → IsUnmadeOf o first x files cuts texts u
-  unmade_kept x u (inl (r, h, by)) = inl (r, h, by_kept r u by)
-  unmade_kept x u (inr h) = inr h

@@ -1,18 +1,23 @@
--- The loops that read the texts of files, and explain them.
-use Rattle.std.proofs.Common.{◌≡◌, ◌∷◌, ◌++◌, [], List, ℕ, ◌+◌, ◌≤◌, Bool, true, false, not, min, length, length-drop, map, drop, append_assoc, append-nil, refl, ap, sym, subst, arith, inl, inr, ◌∙◌}
+-- The loops that take the texts of files.
+use Rattle.std.proofs.Common.{◌≡◌, ◌∷◌, ◌++◌, [], List, ℕ, zero, suc, ◌+◌, Bool, true, false, not, length, map, drop, append_assoc, append-nil, refl, ap, sym, subst, arith, inl, inr, ◌∙◌}
+use Rattle.std.specs.Global.{Vec}
 use Rattle.std.specs.List.{AllPass, list_any}
-use Rattle.std.proofs.lemmas.Bool.{cases_lt, and_parts, or_left, or_right, not-true}
-use Rattle.std.proofs.lemmas.List.{length-map, map-append}
+use Rattle.std.proofs.lemmas.Bool.{true≢false, and_parts, or_left, or_right, not-true}
+use Rattle.std.proofs.lemmas.List.{map-append}
 use Rattle.wkt_tree.specs.Bytes.{is_blank}
 use Rattle.wkt_tree.specs.Tree.{Piece}
 use Rattle.wkt_texts.specs.Texts.{begin, IsNext, AreTexts, IsCutInto}
 use Rattle.wkt_texts.proofs.EachCut.{some_texts, each_cut}
+use Rattle.reg_op.specs.Contents.{Content}
 use Rattle.reg_import.specs.declared.reading.FileText.{FileText}
 use Rattle.reg_import.specs.declared.action.TextAction.{TextAction}
 use Rattle.reg_import.specs.Readings.{is_unread, readings}
-use Rattle.reg_desk.specs.declared.import.texts.FileCut.{FileCut}
-use Rattle.reg_desk.specs.ImportTexts.{TextAt, text_at, in_file, AreCuts, AreRead, AreGiven, kept_if, OneMore, ReadsFile}
-use Rattle.reg_desk.specs.ImportNotes.{notes_of}
+use Rattle.reg_desk.specs.declared.import.options.ImportOptions.{ImportOptions}
+use Rattle.reg_desk.specs.declared.import.progress.Progress.{Progress}
+use Rattle.reg_desk.specs.ImportFiles.{bytes_of}
+use Rattle.reg_desk.specs.ImportTexts.{TextAt, in_file, AreCuts, AreRead, BeginWith, AreGiven}
+use Rattle.reg_desk.specs.ImportNotes.{content_of}
+use Rattle.reg_desk.specs.ImportProgress.{HasCome, OneMore, FileCome, AllCome}
 
 -- ---- files
 
@@ -55,149 +60,143 @@ any_behind (t ∷ ts) texts h = or_right (is_unread t.reading) _ (any_behind ts 
 
 -- ---- the texts of a file
 
-pub all_kept : (xs : List TextAt) → kept_if true xs ≡ xs
-all_kept [] = refl
-all_kept (x ∷ xs) = refl
+module _ (o : ImportOptions) (x : Content) (files : List (List ℕ)) (file : ℕ) (bytes : List ℕ) (cuts : List TextAt) (texts : List FileText) (ts : List TextAction) where
+  -- the texts before this place were taken, and the rest of the file is to be cut from here
+  pub record SoFar (place : ℕ) (rest : List ℕ) (now : Progress) : Type 0 where
+    pub these : List Piece
+    pub its : List FileText
+    pub did : List TextAction
+    pub so_far : (more : List Piece) → AreTexts place rest more → IsCutInto bytes (these ++ more)
+    pub read : AreRead (map (in_file file) these) its
+    pub come : HasCome o x files (cuts ++ map (in_file file) these) (texts ++ its) (ts ++ did) now
+    pub goes : now.ends ≡ false
 
-none_kept : (xs : List TextAt) → kept_if false xs ≡ []
-none_kept [] = refl
-none_kept (x ∷ xs) = refl
-
-pub kept_append : (explain : Bool) (xs ys : List TextAt) → kept_if explain (xs ++ ys) ≡ kept_if explain xs ++ kept_if explain ys
-kept_append explain [] ys = refl
-kept_append true (x ∷ xs) ys = ap (λ l. x ∷ (xs ++ l)) (sym (all_kept ys))
-kept_append false (x ∷ xs) ys = sym (none_kept ys)
-
--- the texts before this place were appended, if they are explained, and their readings, and the rest of the file is to be cut from here
-pub record SoFar (explain : Bool) (file : ℕ) (bytes : List ℕ) (place : ℕ) (rest : List ℕ) (old new : List TextAt) (before after : List FileText) : Type 0 where
-  pub these : List Piece
-  pub texts : List FileText
-  pub so_far : (more : List Piece) → AreTexts place rest more → IsCutInto bytes (these ++ more)
-  pub read : AreRead (map (in_file file) these) texts
-  pub cuts : new ≡ old ++ kept_if explain (map (in_file file) these)
-  pub told : after ≡ before ++ texts
-
-module _ (explain : Bool) (file : ℕ) (bytes : List ℕ) (old : List TextAt) (before : List FileText) where
-  pub none_yet : (place : ℕ) (rest : List ℕ) → place ≡ begin bytes → rest ≡ drop place bytes → SoFar explain file bytes place rest old old before before
-  none_yet place rest at is = record {
+  pub none_yet : (place : ℕ) (rest : List ℕ) (now : Progress) → place ≡ begin bytes → rest ≡ drop place bytes → HasCome o x files cuts texts ts now → now.ends ≡ false → SoFar place rest now
+  none_yet place rest now at is h goes = record {
     these = [];
-    texts = [];
-    so_far = λ more h. subst (λ (n : ℕ). AreTexts n (drop n bytes) more) at (subst (λ (l : List ℕ). AreTexts place l more) is h);
+    its = [];
+    did = [];
+    so_far = λ more k. subst (λ (n : ℕ). AreTexts n (drop n bytes) more) at (subst (λ (l : List ℕ). AreTexts place l more) is k);
     read = tt;
-    cuts = sym (append-nil old);
-    told = sym (append-nil before);
+    come = subst (λ cs. HasCome o x files cs (texts ++ []) (ts ++ []) now) (sym (append-nil cuts))
+        (subst (λ xs. HasCome o x files cuts xs (ts ++ []) now) (sym (append-nil texts)) (subst (λ us. HasCome o x files cuts texts us now) (sym (append-nil ts)) h));
+    goes = goes;
   }
 
-  module _ (keep_going : Bool) (place : ℕ) (rest later : List ℕ) (p : Piece) (ends : Bool) (new after : List TextAt) (read told : List FileText) (s : SoFar explain file bytes place rest old new before read)
-      (next : IsNext place rest p later) (one : OneMore keep_going explain file p ends new after read told) where
-    abbrev pub one_more : SoFar explain file bytes (p.place + length p.bytes) later old after before told
-    one_more = record {
-      these = s.these ++ p ∷ [];
-      texts = s.texts ++ one.text ∷ [];
-      so_far = λ more h. subst (IsCutInto bytes) (sym (append_assoc s.these (p ∷ []) more)) (s.so_far (p ∷ more) (later, next, h));
-      read = subst (λ l. AreRead l (s.texts ++ one.text ∷ [])) (sym (map-append (in_file file) s.these (p ∷ [])))
-          (both_read (map (in_file file) s.these) (in_file file p ∷ []) s.texts (one.text ∷ []) s.read (one.read, tt));
-      cuts = one.cuts ∙ ap (λ l. l ++ kept_if explain (in_file file p ∷ [])) s.cuts ∙ append_assoc old (kept_if explain (map (in_file file) s.these)) (kept_if explain (in_file file p ∷ []))
-          ∙ ap (λ l. old ++ l) (sym (kept_append explain (map (in_file file) s.these) (in_file file p ∷ [])) ∙ ap (kept_if explain) (sym (map-append (in_file file) s.these (p ∷ []))));
-      told = one.texts ∙ ap (λ l. l ++ one.text ∷ []) s.told ∙ append_assoc before s.texts (one.text ∷ []);
-    }
+  module _ (place : ℕ) (rest later : List ℕ) (p : Piece) (now new : Progress) (s : SoFar place rest now) (next : IsNext place rest p later)
+      (one : OneMore o x files (in_file file p) (cuts ++ map (in_file file) s.these) (texts ++ s.its) (ts ++ s.did) new) where
+    abbrev these_more : List Piece
+    these_more = s.these ++ p ∷ []
+
+    so_far_more : (more : List Piece) → AreTexts (p.place + length p.bytes) later more → IsCutInto bytes (these_more ++ more)
+    so_far_more more h = subst (IsCutInto bytes) (sym (append_assoc s.these (p ∷ []) more)) (s.so_far (p ∷ more) (later, next, h))
+
+    read_more : AreRead (map (in_file file) these_more) (s.its ++ one.text ∷ [])
+    read_more = subst (λ l. AreRead l (s.its ++ one.text ∷ [])) (sym (map-append (in_file file) s.these (p ∷ [])))
+        (both_read (map (in_file file) s.these) (in_file file p ∷ []) s.its (one.text ∷ []) s.read (one.read, tt))
+
+    come_more : HasCome o x files (cuts ++ map (in_file file) these_more) (texts ++ (s.its ++ one.text ∷ [])) (ts ++ (s.did ++ one.did ∷ [])) new
+    come_more =
+        subst (λ cs. HasCome o x files cs (texts ++ (s.its ++ one.text ∷ [])) (ts ++ (s.did ++ one.did ∷ [])) new)
+        (append_assoc cuts (map (in_file file) s.these) (in_file file p ∷ []) ∙ ap (λ l. cuts ++ l) (sym (map-append (in_file file) s.these (p ∷ []))))
+        (subst (λ xs. HasCome o x files ((cuts ++ map (in_file file) s.these) ++ in_file file p ∷ []) xs (ts ++ (s.did ++ one.did ∷ [])) new) (append_assoc texts s.its (one.text ∷ []))
+        (subst (λ us. HasCome o x files ((cuts ++ map (in_file file) s.these) ++ in_file file p ∷ []) ((texts ++ s.its) ++ one.text ∷ []) us new) (append_assoc ts s.did (one.did ∷ [])) one.come))
+
+    pub one_more : new.ends ≡ false → SoFar (p.place + length p.bytes) later new
+    one_more goes = record { these = these_more; its = s.its ++ one.text ∷ []; did = s.did ++ one.did ∷ []; so_far = so_far_more; read = read_more; come = come_more; goes = goes }
 
     -- the import ends at this text
-    pub ends_here : ends ≡ true → ReadsFile keep_going explain file bytes true old after before told
+    pub ends_here : new.ends ≡ true → FileCome o x files file bytes cuts texts ts new
     ends_here e =
-        let now = one_more in
         let behind = some_texts (p.place + length p.bytes) later in
-        let parts = and_parts (not keep_going) (is_unread one.text.reading) (sym one.is ∙ e) in
+        let parts = and_parts (not o.keep_going) (is_unread one.text.reading) (sym one.is ∙ e) in
         record {
-          these = now.these;
+          these = these_more;
           later = behind.0;
-          cut = now.so_far behind.0 behind.1;
-          texts = now.texts;
-          read = now.read;
-          cuts = now.cuts;
-          told = now.told;
-          all = λ k. absurd cc;
-          unread = λ k. (not-true keep_going parts.0, any_behind s.texts (one.text ∷ []) (or_left (is_unread one.text.reading) false parts.1));
+          cut = so_far_more behind.0 behind.1;
+          its = s.its ++ one.text ∷ [];
+          did = s.did ++ one.did ∷ [];
+          read = read_more;
+          come = come_more;
+          all = λ k. absurd (true≢false (sym e ∙ k));
+          unread = λ k. (not-true o.keep_going parts.0, any_behind s.its (one.text ∷ []) (or_left (is_unread one.text.reading) false parts.1));
         }
 
   -- the file has no more texts
-  pub file_done : (keep_going : Bool) (place : ℕ) (rest : List ℕ) (new : List TextAt) (told : List FileText) → SoFar explain file bytes place rest old new before told → AllPass is_blank rest
-      → ReadsFile keep_going explain file bytes false old new before told
-  file_done keep_going place rest new told s blank = record {
+  pub file_done : (place : ℕ) (rest : List ℕ) (now : Progress) → SoFar place rest now → AllPass is_blank rest → FileCome o x files file bytes cuts texts ts now
+  file_done place rest now s blank = record {
     these = s.these;
     later = [];
     cut = s.so_far [] blank;
-    texts = s.texts;
+    its = s.its;
+    did = s.did;
     read = s.read;
-    cuts = s.cuts;
-    told = s.told;
+    come = s.come;
     all = λ k. refl;
-    unread = λ k. absurd cc;
+    unread = λ k. absurd (true≢false (sym k ∙ s.goes));
   }
 
 -- ---- the texts of all files
 
-module _ (files : List (List ℕ)) (file : ℕ) (rest others : List (List ℕ)) (bytes : List ℕ) (keep_going explain ends : Bool) (old kept new : List TextAt) (before after : List FileText) (is : rest ≡ bytes ∷ others)
-    (done : CutsComplete files file rest old) (read : AreRead old before) (r : ReadsFile keep_going explain file bytes ends kept new before after) where
-  -- with those of this file
-  abbrev pub with_these : List TextAt
-  with_these = old ++ map (in_file file) r.these
+-- the texts of the files before this one were taken
+pub record FilesSoFar (o : ImportOptions) (x : Content) (files : List (List ℕ)) (file : ℕ) (rest : List (List ℕ)) (now : Progress) : Type 0 where
+  pub cuts : List TextAt
+  pub texts : List FileText
+  pub ts : List TextAction
+  pub cut : CutsComplete files file rest cuts
+  pub read : AreRead cuts texts
+  pub come : HasCome o x files cuts texts ts now
+  pub goes : now.ends ≡ false
 
-  pub next_read : AreRead with_these after
-  next_read = subst (AreRead with_these) (sym r.told) (both_read old (map (in_file file) r.these) before r.texts read r.read)
+module _ (o : ImportOptions) (x : Content) (files : List (List ℕ)) (file : ℕ) (rest others : List (List ℕ)) (bytes : List ℕ) (now new : Progress) (is : rest ≡ bytes ∷ others) (s : FilesSoFar o x files file rest now)
+    (r : FileCome o x files file bytes s.cuts s.texts s.ts new) where
+  abbrev with_these : List TextAt
+  with_these = s.cuts ++ map (in_file file) r.these
 
-  pub next_kept : kept ≡ kept_if explain old → new ≡ kept_if explain with_these
-  next_kept e = r.cuts ∙ ap (λ l. l ++ kept_if explain (map (in_file file) r.these)) e ∙ sym (kept_append explain old (map (in_file file) r.these))
+  next_read : AreRead with_these (s.texts ++ r.its)
+  next_read = both_read s.cuts (map (in_file file) r.these) s.texts r.its s.read r.read
 
-  pub next_cut : ends ≡ false → CutsComplete files (file + 1) others with_these
-  next_cut e =
-      let whole : r.these ++ r.later ≡ r.these = ap (λ l. r.these ++ l) (r.all e) ∙ append-nil r.these in
-      cuts_more files file rest others bytes r.these old with_these is (subst (IsCutInto bytes) whole r.cut) refl done
+  pub next_file : new.ends ≡ false → FilesSoFar o x files (file + 1) others new
+  next_file e =
+      let whole : r.these ++ r.later ≡ r.these = ap (λ l. r.these ++ l) (r.all e) ∙ append-nil r.these in record {
+        cuts = with_these;
+        texts = s.texts ++ r.its;
+        ts = s.ts ++ r.did;
+        cut = cuts_more files file rest others bytes r.these s.cuts with_these is (subst (IsCutInto bytes) whole r.cut) refl s.cut;
+        read = next_read;
+        come = r.come;
+        goes = e;
+      }
 
-  pub ends_given : ends ≡ true → AreGiven keep_going files with_these after
+  pub ends_given : new.ends ≡ true → AllCome o x files new
   ends_given e =
       let more = some_cuts (file + 1) others in
       let front : List TextAt = map (in_file file) r.these in
       let back : List TextAt = map (in_file file) r.later ++ more.0 in
       let here : AreCuts file rest (map (in_file file) (r.these ++ r.later) ++ more.0) =
       subst (λ l. AreCuts file l (map (in_file file) (r.these ++ r.later) ++ more.0)) (sym is) (r.these ++ r.later, more.0, r.cut, more.1, refl) in
-      let same : old ++ (map (in_file file) (r.these ++ r.later) ++ more.0) ≡ with_these ++ back =
-      ap (λ l. old ++ (l ++ more.0)) (map-append (in_file file) r.these r.later) ∙ ap (λ l. old ++ l) (append_assoc front (map (in_file file) r.later) more.0)
-      ∙ sym (append_assoc old front back) in
-      inr (
-        (r.unread e).0,
-        record {
-          later = back;
-          cut = subst (AreCuts 0 files) same (done (map (in_file file) (r.these ++ r.later) ++ more.0) here);
-          read = next_read;
-          unread = subst (λ l. list_any is_unread (readings l) ≡ true) (sym r.told) (any_behind before r.texts (r.unread e).1);
-        },
-      )
+      let same : s.cuts ++ (map (in_file file) (r.these ++ r.later) ++ more.0) ≡ with_these ++ back =
+      ap (λ l. s.cuts ++ (l ++ more.0)) (map-append (in_file file) r.these r.later) ∙ ap (λ l. s.cuts ++ l) (append_assoc front (map (in_file file) r.later) more.0)
+      ∙ sym (append_assoc s.cuts front back) in
+      let begins : BeginWith files with_these (s.texts ++ r.its) = record {
+        later = back;
+        cut = subst (AreCuts 0 files) same (s.cut (map (in_file file) (r.these ++ r.later) ++ more.0) here);
+        read = next_read;
+        unread = any_behind s.texts r.its (r.unread e).1;
+      } in
+      (with_these, s.texts ++ r.its, s.ts ++ r.did, inr ((r.unread e).0, begins), r.come)
 
-pub all_given : (files : List (List ℕ)) (file : ℕ) (rest : List (List ℕ)) (keep_going : Bool) (cuts : List TextAt) (texts : List FileText) → length rest ≡ 0 → CutsComplete files file rest cuts → AreRead cuts texts
-    → AreGiven keep_going files cuts texts
-all_given files file rest keep_going cuts texts none done read = inl (record { cut = cuts_done files file rest cuts none done; read = read })
+pub none_before : (o : ImportOptions) (x : Content) (files : List (List ℕ)) (now : Progress) → HasCome o x files [] [] [] now → now.ends ≡ false → FilesSoFar o x files 0 files now
+none_before o x files now h goes = record { cuts = []; texts = []; ts = []; cut = λ more are. are; read = tt; come = h; goes = goes }
 
--- ---- notes
+pub all_given : (o : ImportOptions) (x : Content) (files : List (List ℕ)) (file : ℕ) (rest : List (List ℕ)) (now : Progress) → length rest ≡ 0 → FilesSoFar o x files file rest now → AllCome o x files now
+all_given o x files file rest now none s = (s.cuts, s.texts, s.ts, inl (record { cut = cuts_done files file rest s.cuts none s.cut; read = s.read }), s.come)
 
-no_notes : (names files : List (List ℕ)) (cuts : List TextAt) → notes_of names files cuts [] ≡ []
-no_notes names files [] = refl
-no_notes names files (c ∷ cs) = refl
-
-no_text_left : (names files : List (List ℕ)) (cuts : List TextAt) (ts : List TextAction) → length cuts ≡ 0 → notes_of names files cuts ts ≡ []
-no_text_left names files [] ts h = refl
-no_text_left names files (c ∷ cs) ts h = absurd (omega arith)
-
-nothing_told : (names files : List (List ℕ)) (cuts : List TextAt) (ts : List TextAction) → length ts ≡ 0 → notes_of names files cuts ts ≡ []
-nothing_told names files cuts [] h = no_notes names files cuts
-nothing_told names files cuts (t ∷ ts) h = absurd (omega arith)
-
--- past the end of either list there are no notes
-pub none_left : (names files : List (List ℕ)) (cuts : List FileCut) (ts : List TextAction) (i : ℕ) → min (length cuts) (length ts) ≤ i → notes_of names files (map text_at (drop i cuts)) (drop i ts) ≡ []
-none_left names files cuts ts i past = elim (cases_lt (length cuts) (length ts)) [
-  | inl l ↦ no_text_left names files (map text_at (drop i cuts)) (drop i ts) (length-map (drop i cuts) text_at ∙ length-drop i cuts ∙ omega (arith, l, past))
-  | inr l ↦ nothing_told names files (map text_at (drop i cuts)) (drop i ts) (length-drop i ts ∙ omega (arith, l, past))
-]
-
-pub notes_done : (text rest whole : List ℕ) → rest ≡ [] → text ++ rest ≡ whole → text ≡ whole
-notes_done text rest whole none is = sym (append-nil text) ∙ ap (λ n. text ++ n) (sym none) ∙ is
+-- the file at a place is the first of those from there
+pub content_at : (files : List (Vec ℕ)) (i : ℕ) (v : Vec ℕ) (rest : List (Vec ℕ)) → drop i files ≡ v ∷ rest → v.items ≡ content_of (bytes_of files) i
+content_at [] zero v rest h = absurd cc
+content_at [] (suc i) v rest h = absurd cc
+content_at (f ∷ files) zero v rest h =
+    let same : f ≡ v = cc in
+    ap (λ (w : Vec ℕ). w.items) (sym same)
+content_at (f ∷ files) (suc i) v rest h = content_at files i v rest h

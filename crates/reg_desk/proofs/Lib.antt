@@ -4,6 +4,7 @@ pub mod LookLemmas
 pub mod StatusLemmas
 mod SettleLemmas
 pub mod ImportFileLemmas
+mod ProgressLemmas
 pub mod ImportTextLemmas
 mod FirstTextLemmas
 pub mod ImportEngineLemmas

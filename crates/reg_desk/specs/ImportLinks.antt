@@ -6,13 +6,12 @@ use Rattle.reg_office.specs.declared.fault.OfficeFault.{OfficeFault}
 use Rattle.reg_office.specs.declared.fault.OfficeFault.TheVariants as office
 use Rattle.reg_import.specs.declared.reading.ReadText.{ReadText}
 use Rattle.reg_import.specs.declared.action.TextAction.{TextAction}
+use Rattle.reg_import.specs.declared.import.ImportRefusal.TheVariants as refused
 use Rattle.reg_import.specs.Plans.{MayRunOut, Imports, IsImportRefusal}
 use Rattle.reg_links.specs.declared.link.Link.{Link}
 use Rattle.reg_links.specs.Links.{links_in}
 use Rattle.reg_links.specs.Passing.{PassesOn, IsNotPassedOn}
 use Rattle.reg_desk.specs.declared.import.options.ImportOptions.{ImportOptions}
-use Rattle.reg_desk.specs.declared.import.linked.LinkRefusal.{LinkRefusal}
-use Rattle.reg_desk.specs.declared.import.linked.LinkRefusal.TheVariants as refusal
 
 -- the texts are imported, and then the links pass on
 pub record ImportsLinked (o : ImportOptions) (x : Content) (readings : List ReadText) (y : Content) (ts : List TextAction) (links : List Link) : Type 0 where
@@ -28,7 +27,8 @@ pub record IsOnlyImported (o : ImportOptions) (x : Content) (readings : List Rea
   pub imports : Imports x o.replica o.note.now o.differs o.keep_going readings between told
   pub not_passed : IsNotPassedOn (links_in x.ops) between o.replica o.note.now f
 
--- why there is no result. Memory may run out once it is known that the import does not end at its first text
-abbrev pub IsUnlinked : ImportOptions → Content → List ReadText → LinkRefusal → Type 0
-IsUnlinked o x readings (refusal.Import r) = IsImportRefusal x o.replica o.note.now o.differs o.keep_going readings r
-IsUnlinked o x readings (refusal.Office f) = IsOnlyImported o x readings f ⊎ ((f ≡ office.Memory) × MayRunOut o.note.now o.keep_going readings)
+-- why there is no result: numbers ran out, or memory, which may be once the import does not end at its first text; or the texts are
+-- imported, but the links are not made
+abbrev pub IsUnlinked : ImportOptions → Content → List ReadText → OfficeFault → Type 0
+IsUnlinked o x readings f = ((f ≡ office.CountSpent) × IsImportRefusal x o.replica o.note.now o.differs o.keep_going readings refused.CountSpent)
+    ⊎ (((f ≡ office.Memory) × MayRunOut o.note.now o.keep_going readings) ⊎ IsOnlyImported o x readings f)

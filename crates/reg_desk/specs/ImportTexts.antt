@@ -1,5 +1,5 @@
 -- The texts of files: their places and readings.
-use Rattle.std.specs.Prelude.{◌≡◌, ◌⊎◌, ◌+◌, ◌++◌, ℕ, Bool, true, false, not, ◌&&◌, List, [], ◌∷◌, map, if◌then◌else◌}
+use Rattle.std.specs.Prelude.{◌≡◌, ◌⊎◌, ◌+◌, ◌++◌, ℕ, Bool, true, false, List, [], ◌∷◌, map}
 use Rattle.std.specs.List.{list_any}
 use Rattle.wkt_tree.specs.Tree.{Piece}
 use Rattle.wkt_texts.specs.Texts.{IsCutInto}
@@ -47,34 +47,3 @@ pub record BeginWith (files : List (List ℕ)) (cuts : List TextAt) (texts : Lis
 -- they are all texts of the files; or, unless refused ones are passed over, the first, one of which is no definition
 abbrev pub AreGiven : Bool → List (List ℕ) → List TextAt → List FileText → Type 0
 AreGiven keep_going files cuts texts = HaveTexts files cuts texts ⊎ ((keep_going ≡ false) × BeginWith files cuts texts)
-
--- the texts, if they are explained
-abbrev pub kept_if : Bool → List TextAt → List TextAt
-kept_if explain [] = []
-kept_if explain (c ∷ cs) = if explain then c ∷ cs else []
-
--- these are the readings of the texts of the files, or of the first; and these are their texts, if they are explained
-abbrev pub Gives : Bool → Bool → List (List ℕ) → List TextAt → List FileText → Type 0
-Gives keep_going explain files kept texts = (cuts : List TextAt) × AreGiven keep_going files cuts texts × (kept ≡ kept_if explain cuts)
-
--- ---- reading
-
--- this text of a file was appended, if texts are explained, and its reading; whether the import ends there
-pub record OneMore (keep_going explain : Bool) (file : ℕ) (p : Piece) (ends : Bool) (old new : List TextAt) (before after : List FileText) : Type 0 where
-  pub text : FileText
-  pub read : IsFileText file p.place p.bytes text
-  pub cuts : new ≡ old ++ kept_if explain (in_file file p ∷ [])
-  pub texts : after ≡ before ++ text ∷ []
-  pub is : ends ≡ (not keep_going && is_unread text.reading)
-
--- the texts of a file of these bytes were appended, if they are explained, and their readings; if the import ends in it, perhaps only the first
-pub record ReadsFile (keep_going explain : Bool) (file : ℕ) (bytes : List ℕ) (ends : Bool) (old new : List TextAt) (before after : List FileText) : Type 0 where
-  pub these : List Piece
-  pub later : List Piece
-  pub cut : IsCutInto bytes (these ++ later)
-  pub texts : List FileText
-  pub read : AreRead (map (in_file file) these) texts
-  pub cuts : new ≡ old ++ kept_if explain (map (in_file file) these)
-  pub told : after ≡ before ++ texts
-  pub all : ends ≡ false → later ≡ []
-  pub unread : ends ≡ true → (keep_going ≡ false) × (list_any is_unread (readings texts) ≡ true)

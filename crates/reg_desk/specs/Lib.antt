@@ -10,6 +10,7 @@ pub mod ImportTexts
 pub mod ImportNotes
 pub mod ImportLinks
 pub mod Import
+pub mod ImportProgress
 pub mod ImportRoom
 pub mod ImportEngines
 pub mod Logged

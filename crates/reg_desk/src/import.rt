@@ -8,6 +8,7 @@ mod first;
 mod linked;
 mod notes;
 mod options;
+mod progress;
 mod ready;
 mod room;
 mod telling;

@@ -98,7 +98,7 @@ short_note x r note bodies ops h = elim (nat_lt 200 (length note)) as (λ b. nat
   | false ↦ λ e. not_more (length note) e
 ] refl
 
-not_first : (d : Differs) (r : List ℕ) (n : ℕ) (at : At) (keep_going : Bool) (rs : List ReadText) → (keep_going ≡ false → NoneRefused (tolds (imports d r n at rs))) → (not keep_going && begins_unread rs) ≡ false
+pub not_first : (d : Differs) (r : List ℕ) (n : ℕ) (at : At) (keep_going : Bool) (rs : List ReadText) → (keep_going ≡ false → NoneRefused (tolds (imports d r n at rs))) → (not keep_going && begins_unread rs) ≡ false
 not_first d r n at true rs h = refl
 not_first d r n at false [] h = refl
 not_first d r n at false (reading.Unread f ∷ rs) h = absurd (true≢false (h refl))

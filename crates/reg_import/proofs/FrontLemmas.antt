@@ -64,7 +64,7 @@ unread_told x r d xs steps unread are none =
 
 -- ---- an import that passes over no refused text
 
-first_on : (ts us : List TextAction) (i : ℕ) (p : Problem) → IsFirstRefused ts i p → IsFirstRefused (ts ++ us) i p
+pub first_on : (ts us : List TextAction) (i : ℕ) (p : Problem) → IsFirstRefused ts i p → IsFirstRefused (ts ++ us) i p
 first_on ts us i p h = record {
   refused = get_front ts us i (told.Refused p) h.refused;
   first = subst NoneRefused (sym (take_front ts us i (told.Refused p) h.refused)) h.first;

@@ -13,10 +13,12 @@ pub mod TextLemmas
 pub mod AgainLemmas
 pub mod StandingLemmas
 pub mod GoneLemmas
+mod ListedLemmas
 pub mod ReadingLemmas
 pub mod FrontLemmas
 pub mod LastLemmas
 pub mod LawLemmas
 pub mod AtOnceLemmas
+pub mod TakingLemmas
 pub mod AheadLemmas
 pub mod ModeLemmas

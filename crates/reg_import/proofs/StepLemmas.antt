@@ -25,7 +25,7 @@ use Rattle.reg_op.specs.Ids.{Id}
 use Rattle.reg_import.specs.declared.summary.Found.{Found}
 use Rattle.reg_import.specs.Summary.{found, told_by}
 use Rattle.reg_import.specs.Imports.{least, any_entry, told_of, bodies_of, then_of, told_at, bodies_at, then_at, Step, imports, tolds, effects}
-use Rattle.reg_import.specs.Plans.{StepsOn, StepTold, Lists}
+use Rattle.reg_import.specs.Plans.{StepsOn}
 use Rattle.reg_import.proofs.NumberedLemmas.{numbered_append, length_numbered}
 use Rattle.reg_import.proofs.KnownLemmas.{put_again}
 use Rattle.reg_import.proofs.ToldLemmas.{told_has}
@@ -52,10 +52,6 @@ told_is d new there text f t e is = is ∙ ap (λ g. told_by g (least any_entry 
 pub told_fits : (d : Differs) (r : List ℕ) (n : ℕ) (there : OfKey) (text given : List ℕ) (t : TextAction) → t ≡ told_of d (id_at r n) there given → given ≡ text → n ≤ 4294967296 → n + length (bodies_of t text there.known) ≤ 4294967296
 told_fits d r n there text given t e same h = subst (λ u. n + length (bodies_of u text there.known) ≤ 4294967296) (sym (e ∙ ap (told_of d (id_at r n) there) same)) (fits_told d r n there text h)
 
-pub fits_at : (d : Differs) (r : List ℕ) (n : ℕ) (at : At) (text : ReadText) → n ≤ 4294967296 → n + length (bodies_at (told_at d r n at text) at text) ≤ 4294967296
-fits_at d r n at (reading.Unread f) h = omega arith
-fits_at d r n at (reading.Defined text key) h = fits_told d r n (at (bytes_of key)) text h
-
 -- ---- one text
 
 module _ (d : Differs) (r : List ℕ) (n : ℕ) (note text : List ℕ) (key : Key) (at : At) (kt : OwnedKeyText) (b b' : EntriesOfKey) (m : BTreeMap OwnedKeyText EntriesOfKey) (old new : List Op) (t : TextAction) where
@@ -70,75 +66,22 @@ module _ (d : Differs) (r : List ℕ) (n : ℕ) (note text : List ℕ) (key : Ke
       }
 
 -- a text that is no definition is refused, and makes nothing
-pub step_unread : (d : Differs) (r : List ℕ) (n : ℕ) (note : List ℕ) (text : ReadText) (at : At) (m : BTreeMap OwnedKeyText EntriesOfKey) (ops : List Op) (before after : List TextAction) (f g : DefinitionFault)
-    → text ≡ reading.Unread f → g ≡ f → after ≡ before ++ told.Refused (problem.Unread g) ∷ [] → Indexes m at → StepTold d r n note text at m ops ops before after
-step_unread d r n note text at m ops before after f g is same pushed index =
-    subst (λ (t : ReadText). StepTold d r n note t at m ops ops before after) (sym is) (
-      told.Refused (problem.Unread f),
-      record { told = refl; made = sym (append-nil ops); index = index },
-      pushed ∙ ap (λ (h : DefinitionFault). before ++ told.Refused (problem.Unread h) ∷ []) same,
-    )
+pub step_unread : (d : Differs) (r : List ℕ) (n : ℕ) (note : List ℕ) (text : ReadText) (at : At) (m : BTreeMap OwnedKeyText EntriesOfKey) (ops : List Op) (f : DefinitionFault)
+    → text ≡ reading.Unread f → Indexes m at → StepsOn d r n note text at m ops ops (told.Refused (problem.Unread f))
+step_unread d r n note text at m ops f is index =
+    subst (λ (t : ReadText). StepsOn d r n note t at m ops ops (told.Refused (problem.Unread f))) (sym is) (record { told = refl; made = sym (append-nil ops); index = index })
 
 -- a definition has its action, with a key that is the same
-pub step_defined_by : (d : Differs) (r : List ℕ) (n : ℕ) (note : List ℕ) (text : ReadText) (at : At) (m : BTreeMap OwnedKeyText EntriesOfKey) (old new : List Op) (before after : List TextAction) (t : TextAction) (definition : List ℕ) (key its : Key)
-    → text ≡ reading.Defined definition key → its ≡ key → after ≡ before ++ t ∷ [] → StepsOn d r n note (reading.Defined definition its) at m old new t → StepTold d r n note text at m old new before after
-step_defined_by d r n note text at m old new before after t definition key its is same pushed steps =
-    subst (λ (u : ReadText). StepTold d r n note u at m old new before after) (sym is)
-    (t, subst (λ (k : Key). StepsOn d r n note (reading.Defined definition k) at m old new t) same steps, pushed)
+pub step_defined_by : (d : Differs) (r : List ℕ) (n : ℕ) (note : List ℕ) (text : ReadText) (at : At) (m : BTreeMap OwnedKeyText EntriesOfKey) (old new : List Op) (t : TextAction) (definition : List ℕ) (key its : Key)
+    → text ≡ reading.Defined definition key → its ≡ key → StepsOn d r n note (reading.Defined definition its) at m old new t → StepsOn d r n note text at m old new t
+step_defined_by d r n note text at m old new t definition key its is same steps =
+    subst (λ (u : ReadText). StepsOn d r n note u at m old new t) (sym is) (subst (λ (k : Key). StepsOn d r n note (reading.Defined definition k) at m old new t) same steps)
 
--- ---- a loop over the texts
-
--- the loop invariant: the actions and operations so far, followed by those of `rest`, are those of `all`
-pub record Planned (d : Differs) (r : List ℕ) (first : ℕ) (note : List ℕ) (start : At) (all rest : List ReadText) (m : BTreeMap OwnedKeyText EntriesOfKey) (ts : List TextAction) (ops : List Op) : Type 0 where
-  pub at : At
-  pub index : Indexes m at
-  pub fits : first + length ops ≤ 4294967296
-  pub told : ts ++ tolds (imports d r (first + length ops) at rest) ≡ tolds (imports d r first start all)
-  pub made : ops ++ numbered r (first + length ops) note (effects (imports d r (first + length ops) at rest)) ≡ numbered r first note (effects (imports d r first start all))
-
-pub planned_none : (d : Differs) (r : List ℕ) (first : ℕ) (note : List ℕ) (start : At) (all : List ReadText) (m : BTreeMap OwnedKeyText EntriesOfKey) (ts : List TextAction) (ops : List Op) → ts ≡ [] → ops ≡ [] → first ≤ 4294967296 → Indexes m start → Planned d r first note start all all m ts ops
-planned_none d r first note start all m ts ops t0 o0 h i =
-    let e : first + length ops ≡ first = (λ j. first + length (o0 j)) ∙ add-zero first in record {
-      at = start;
-      index = i;
-      fits = subst (λ n. n ≤ 4294967296) (sym e) h;
-      told = (λ j. t0 j ++ tolds (imports d r (e j) start all));
-      made = (λ j. o0 j ++ numbered r (e j) note (effects (imports d r (e j) start all)));
-    }
-
-module _ (d : Differs) (r : List ℕ) (first : ℕ) (note : List ℕ) (start : At) (all rest others : List ReadText) (text : ReadText) (m m' : BTreeMap OwnedKeyText EntriesOfKey) (ts : List TextAction) (old new : List Op) (t : TextAction) (count : ℕ) (ts' : List TextAction) where
-  pub planned_more : rest ≡ text ∷ others → (p : Planned d r first note start all rest m ts old) → count ≡ first + length old → StepsOn d r count note text p.at m' old new t → ts' ≡ ts ++ t ∷ [] → Planned d r first note start all others m' ts' new
-  planned_more at_rest p same given told_then =
-      let n : ℕ = first + length old in
-      let s : StepsOn d r n note text p.at m' old new t = subst (λ k. StepsOn d r k note text p.at m' old new t) same given in
-      let t0 : TextAction = told_at d r n p.at text in
-      let bs : List Body = bodies_at t0 p.at text in
-      let now : At = then_at t0 p.at text in
-      let made_now : new ≡ old ++ numbered r n note bs = subst (λ u. new ≡ old ++ numbered r n note (bodies_at u p.at text)) s.told s.made in
-      let long : length new ≡ length old + length bs = ap length made_now ∙ length-append old (numbered r n note bs) ∙ ap (λ k. length old + k) (length_numbered r n note bs) in
-      let next : first + length new ≡ n + length bs = omega arith in
-      let fit : n + length bs ≤ 4294967296 = fits_at d r n p.at text p.fits in
-      let later : List Step = imports d r (n + length bs) now others in record {
-        at = now;
-        index = subst (λ u. Indexes m' (then_at u p.at text)) s.told s.index;
-        fits = omega arith;
-        told =
-            (λ j. told_then j ++ tolds (imports d r (next j) now others))
-            ∙ (λ j. (ts ++ s.told j ∷ []) ++ tolds later)
-            ∙ append_assoc ts (t0 ∷ []) (tolds later)
-            ∙ sym (ap (λ l. ts ++ tolds (imports d r n p.at l)) at_rest)
-            ∙ p.told;
-        made =
-            (λ j. made_now j ++ numbered r (next j) note (effects (imports d r (next j) now others)))
-            ∙ append_assoc old (numbered r n note bs) (numbered r (n + length bs) note (effects later))
-            ∙ ap (λ l. old ++ l) (sym (numbered_append r n note bs (effects later)))
-            ∙ sym (ap (λ l. old ++ numbered r n note (effects (imports d r n p.at l))) at_rest)
-            ∙ p.made;
-      }
-
-pub planned_all : (d : Differs) (r : List ℕ) (first : ℕ) (note : List ℕ) (start : At) (all rest : List ReadText) (m : BTreeMap OwnedKeyText EntriesOfKey) (ts : List TextAction) (ops : List Op) → length rest ≡ 0 → Planned d r first note start all rest m ts ops → Lists r first note (imports d r first start all) ts ops
-planned_all d r first note start all [] m ts ops e p = record { told = sym (append-nil ts) ∙ p.told; made = sym (append-nil ops) ∙ p.made }
-planned_all d r first note start all (x ∷ rest) m ts ops e p = absurd (omega arith)
+-- the operations after a text, with their numbers
+pub then_fits : (r : List ℕ) (first n : ℕ) (note : List ℕ) (old new : List Op) (bs : List Body) → new ≡ old ++ numbered r n note bs → n ≡ first + length old → n + length bs ≤ 4294967296 → first + length new ≤ 4294967296
+then_fits r first n note old new bs made at fits =
+    let long : length new ≡ length old + length bs = ap length made ∙ length-append old (numbered r n note bs) ∙ ap (λ k. length old + k) (length_numbered r n note bs) in
+    omega (arith, long, at, fits)
 
 -- putting an entry into the index appends it to the entries of its key
 pub entry_put : (kt : OwnedKeyText) (b b' : EntriesOfKey) (e : StandingEntry) (m : BTreeMap OwnedKeyText EntriesOfKey) (at : At) → key_bytes kt ≡ key_of e → entries_seen b ≡ at (key_bytes kt) → entries_seen b' ≡ and_entry e (entries_seen b)

@@ -10,5 +10,5 @@ pub mod Gone
 pub mod Lines
 pub mod Listing
 pub mod Modes
-pub mod Packed
-pub mod PackedActions
+pub mod Taking
+pub mod Listed

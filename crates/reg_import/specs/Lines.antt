@@ -13,7 +13,6 @@ use Rattle.wkt_crs.specs.declared.definition.DefinitionFault.TheVariants as faul
 use Rattle.wkt_crs.specs.Definition.{IsCrsOf, IsKeyIn, fault_name}
 use Rattle.reg_op.specs.Rows.{Row}
 use Rattle.reg_op.specs.Text.{printed}
-use Rattle.reg_import.specs.Readings.{name_bytes}
 use Rattle.reg_import.specs.declared.reading.FileText.{FileText}
 use Rattle.reg_import.specs.declared.reading.ReadText.{ReadText}
 use Rattle.reg_import.specs.declared.reading.ReadText.TheVariants as reading
@@ -106,7 +105,7 @@ is_shown changes l = not (changes && is_known l.told)
 abbrev pub IsLineOf : List (List ℕ) → FileText → TextAction → ReadText → List (List ℕ) → Type 0
 IsLineOf names x t (reading.Defined definition key) fields =
     (crs : Crs) × IsCrsOf crs definition × (fields ≡ line_fields names x t key.authority.bytes key.code.bytes (name_of crs.parts).bytes)
-IsLineOf names x t (reading.Unread f) fields = fields ≡ line_fields names x t [] [] (name_bytes x.quoted)
+IsLineOf names x t (reading.Unread f) fields = fields ≡ line_fields names x t [] [] x.quoted.items
 
 abbrev pub IsImportLine : List (List ℕ) → Line → List (List ℕ) → Type 0
 IsImportLine names l fields = IsLineOf names l.text l.told l.text.reading fields

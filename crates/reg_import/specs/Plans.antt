@@ -46,10 +46,6 @@ pub record StepsOn (differs : Differs) (replica : List ℕ) (count : ℕ) (note 
   pub made : new ≡ old ++ numbered replica count note (bodies_at t at text)
   pub index : Indexes m (then_at t at text)
 
--- and its action is appended
-abbrev pub StepTold : Differs → List ℕ → ℕ → List ℕ → ReadText → At → BTreeMap OwnedKeyText EntriesOfKey → List Op → List Op → List TextAction → List TextAction → Type 0
-StepTold differs replica count note text at m old new before after = (t : TextAction) × StepsOn differs replica count note text at m old new t × (after ≡ before ++ t ∷ [])
-
 -- the operations have consecutive counts from the first, and one note
 abbrev pub AreNumbered : List ℕ → ℕ → List Op → Type 0
 AreNumbered replica first ops = (note : List ℕ) × ((bodies : List Body) × (ops ≡ numbered replica first note bodies))

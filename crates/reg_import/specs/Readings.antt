@@ -1,7 +1,6 @@
 -- The readings of texts.
-use Rattle.std.specs.Prelude.{◌≡◌, ◌≢◌, ℕ, ◌+◌, Bool, true, false, List, [], ◌∷◌, map, Option, Some, None}
+use Rattle.std.specs.Prelude.{◌≡◌, ◌≢◌, ℕ, ◌+◌, Bool, true, false, List, [], ◌∷◌, map}
 use Rattle.std.specs.Option.{unwrap_or}
-use Rattle.std.specs.Global.{Vec}
 use Rattle.wkt_crs.specs.Spells.{SpellsCanon}
 use Rattle.wkt_crs.specs.Definition.{IsDefinition, IsKeyIn, IsTextFault, fault_place}
 use Rattle.wkt_crs.specs.declared.definition.DefinitionFault.TheVariants.{Memory}
@@ -31,18 +30,13 @@ abbrev pub quoted_in : List ℕ → ReadText → List ℕ
 quoted_in text (reading.Defined definition key) = []
 quoted_in text (reading.Unread f) = shown_quoted text
 
--- the bytes of a name, which may be empty
-abbrev pub name_bytes : Option (Vec ℕ) → List ℕ
-name_bytes None = []
-name_bytes (Some name) = name.items
-
 -- these bytes are in the file with this number from this place on, and this is their reading
 pub record IsFileText (file place : ℕ) (bytes : List ℕ) (t : FileText) : Type 0 where
   pub in_file : t.file ≡ file
   pub begins : t.place ≡ place
   pub told_at : t.at ≡ place + place_in t.reading
   pub reads : IsReading bytes t.reading
-  pub quotes : name_bytes t.quoted ≡ quoted_in bytes t.reading
+  pub quotes : t.quoted.items ≡ quoted_in bytes t.reading
 
 abbrev pub readings : List FileText → List ReadText
 readings texts = map (λ (t : FileText). t.reading) texts

@@ -1,6 +1,6 @@
 //! The action for a text, given the entries of its key.
 
-ghost use Rattle.std.specs.Prelude.{◌≡◌, ◌+◌, ◌<◌, ◌≤◌, ℕ, Some, IfSome, IfNone};
+ghost use Rattle.std.specs.Prelude.{◌≡◌, ◌+◌, ◌<◌, ◌≤◌, ◌++◌, ◌∷◌, [], ℕ, Some, IfSome, IfNone, OnOk};
 ghost use Rattle.reg_state.specs.Runs.{id_at};
 ghost use Rattle.reg_import.specs.Imports.{least, any_entry, told_of, told_of_new, unless_spent, is_refused, is_spent};
 ghost use Rattle.reg_import.specs.Index.{entries_seen};
@@ -10,6 +10,7 @@ ghost use Rattle.reg_import.specs.Summary.{told_by};
 use crate::entries_of_key::EntriesOfKey;
 use crate::summary::Found;
 use reg_op::OpId;
+use std::alloc::AllocError;
 use uuid::Uuid;
 use wkt_crs::DefinitionFault;
 
@@ -93,6 +94,14 @@ impl TextAction {
             TextAction::Refused(_) => false,
         }
     }
+}
+
+/// Appends an action.
+pub fn push_action(actions: &mut Vec<TextAction>, told: &TextAction) -> Result<(), AllocError>
+    ensures { OnOk result (actions.new.items ≡ actions.old.items ++ told.now ∷ []) }
+{
+    actions.extend_from_slice(&[*told])?;
+    Ok(())
 }
 
 // The id with this count, if the count plus this many is in range.

@@ -4,11 +4,11 @@ ghost use Rattle.std.specs.Prelude.{◌≡◌, ◌↔◌, ◌++◌, ◌∷◌, [
 ghost use Rattle.reg_op.specs.Rows.{rows};
 ghost use Rattle.reg_report.specs.Conflicts.{KeyBytes};
 ghost use Rattle.reg_report.specs.Seen.{row_seen};
-ghost use Rattle.reg_import.specs.Readings.{readings, keys_in};
+ghost use Rattle.reg_import.specs.Readings.{keys_in};
 ghost use Rattle.reg_import.specs.Gone.{HasKeys, IsGone, AreGone};
 
 use crate::index::{OwnedKeyText, text_of};
-use crate::reading::{FileText, ReadText};
+use crate::reading::ReadText;
 use crate::standing_entry::stands;
 use crs_search::is_alike;
 use reg_report::{Row, rows};
@@ -16,8 +16,8 @@ use reg_state::Register;
 use std::alloc::{AllocError, Global};
 use std::collections::BTreeSet;
 
-// Adds the key of a text, if it was read.
-fn put_key(
+/// Adds the key of a text, if it was read.
+pub fn put_key(
     alloc: Global,
     keys: &mut BTreeSet<OwnedKeyText>,
     reading: &ReadText,
@@ -32,19 +32,6 @@ fn put_key(
         }
         ReadText::Unread(_) => Ok(()),
     }
-}
-
-// The keys of the texts.
-fn keys_of(alloc: Global, texts: &[FileText]) -> Result<BTreeSet<OwnedKeyText>, AllocError>
-    ensures { IfOk result (λ keys. HasKeys keys (keys_in (readings texts.now))) }
-{
-    let mut keys = BTreeSet::new(alloc);
-    let mut rest = texts;
-    while let Some((text, others)) = rest.split_first() {
-        put_key(alloc, &mut keys, &text.reading)?;
-        rest = others;
-    }
-    Ok(keys)
 }
 
 // Whether the entry is not retired, has the authority, and has none of these keys.
@@ -93,18 +80,17 @@ fn keep_gone(
     Ok(gone)
 }
 
-/// The rows of the entries that are not retired, have this authority (letters A to Z match in either case), and have keys
-/// that no text has, by id.
+/// The rows of the entries that are not retired, have this authority (letters A to Z match in either case), and have none of
+/// these keys, by id.
 pub fn gone(
     alloc: Global,
     register: &Register,
     authority: &[u8],
-    texts: &[FileText],
+    keys: &BTreeSet<OwnedKeyText>,
 ) -> Result<Vec<Row>, AllocError>
-    ensures { IfOk result (λ made. AreGone authority.now (keys_in (readings texts.now)) (rows register.now.ops) (map row_seen made.items)) }
+    ensures { (texts : List KeyBytes) → HasKeys keys.now texts → IfOk result (λ made. AreGone authority.now texts (rows register.now.ops) (map row_seen made.items)) }
 {
     let rows = rows(alloc, register)?;
-    let keys = keys_of(alloc, texts)?;
-    let gone = keep_gone(alloc, authority, &keys, rows)?;
+    let gone = keep_gone(alloc, authority, keys, rows)?;
     Ok(gone)
 }

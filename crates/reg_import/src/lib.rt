@@ -5,14 +5,13 @@ mod action;
 mod entries_of_key;
 mod gone;
 mod import;
+mod importing;
 mod index;
 pub mod laws;
 mod least;
 mod lines;
 mod listing;
 mod making;
-mod packed;
-mod packed_action;
 mod plan;
 mod quoted;
 mod reading;
@@ -20,10 +19,6 @@ mod standing_entry;
 mod summary;
 
 pub use action::{Differs, Problem, TextAction};
-pub use import::{
-    ImportRefusal, Imported, RefusedText, first_refused, import_texts, refused_at_once,
-};
-pub use listing::{Listing, lines_text};
-pub use packed::PackedFault;
-pub use packed_action::PackedAction;
+pub use import::{ImportRefusal, Importing, TakenText};
+pub use listing::{ImportLines, Listing};
 pub use reading::{FileText, ReadText, read_at, told_at};

@@ -4,7 +4,6 @@ ghost use Rattle.std.specs.Prelude.{◌≡◌, ◌++◌, [], ◌∷◌, ℕ, Lis
 ghost use Rattle.std.specs.String.{string_bytes};
 ghost use Rattle.reg_op.specs.Text.{printed};
 ghost use Rattle.reg_report.specs.Lines.{IsSheet, IsReady, WritesRow};
-ghost use Rattle.reg_import.specs.Readings.{name_bytes};
 ghost use Rattle.reg_import.specs.Lines.{Line, lines_of, action_word, entry_text, fault_words, problem_words, problem_text, fault_text, name_at, import_header, line_fields, IsImportLine};
 
 use crate::action::{Problem, TextAction};
@@ -194,12 +193,12 @@ fn write_named(
     requires { IsReady wtr.old }
     ensures { OnOk result (WritesRow wtr.old wtr.new (line_fields (map string_bytes names.now) text.now told.now authority.now code.now name.now)) }
 {
-    let place = decimal(alloc, text.place as usize)?;
+    let place = decimal(alloc, text.place)?;
     let entry = entry_text(alloc, told)?;
-    let fault = fault_text(alloc, told, text.at as usize)?;
+    let fault = fault_text(alloc, told, text.at)?;
     write_eight(
         wtr,
-        name_at(names, text.file as usize),
+        name_at(names, text.file),
         &place,
         action_word(told),
         &entry,
@@ -209,16 +208,6 @@ fn write_named(
         &fault,
     )?;
     Ok(())
-}
-
-// The first text in quotation marks, of a text that is no definition.
-fn quoted_name(text: &FileText) -> &[u8]
-    ensures { result.now ≡ name_bytes text.now.quoted }
-{
-    match &text.quoted {
-        Some(name) => name.get().as_slice(),
-        None => b"",
-    }
 }
 
 /// Writes the line of a text.
@@ -242,8 +231,7 @@ pub fn write_line(
             Ok(())
         }
         ReadText::Unread(_) => {
-            let name = quoted_name(text);
-            write_named(alloc, wtr, names, text, told, b"", b"", name)?;
+            write_named(alloc, wtr, names, text, told, b"", b"", &text.quoted)?;
             Ok(())
         }
     }

@@ -1,25 +1,30 @@
-//! The output of an import.
+//! The output of an import, which is made as its texts are taken.
 
-ghost use Rattle.std.specs.Prelude.{◌≡◌, ◌<◌, ◌≤◌, ◌⊎◌, ◌∷◌, [], ℕ, List, map, filter, not, ◌&&◌, length, IfOk, OnOk, IfSome, IfNone};
+ghost use Rattle.std.specs.Prelude.{◌≡◌, ◌++◌, ◌∷◌, [], ℕ, List, map, filter, not, ◌&&◌, IfOk, OnOk};
 ghost use Rattle.std.specs.String.{string_bytes};
 ghost use Rattle.reg_op.specs.Rows.{rows};
 ghost use Rattle.csv.specs.Writing.{row_text, default_writer};
 ghost use Rattle.reg_report.specs.Lines.{IsReady, WritesRow, AreLines};
 ghost use Rattle.reg_report.specs.Seen.{row_seen};
-ghost use Rattle.reg_import.specs.Readings.{readings};
+ghost use Rattle.reg_import.specs.declared.listing.Listing.{Listing};
+ghost use Rattle.reg_import.specs.declared.reading.FileText.{FileText};
+ghost use Rattle.reg_import.specs.declared.reading.ReadText.{ReadText};
+ghost use Rattle.reg_import.specs.declared.action.TextAction.{TextAction};
 ghost use Rattle.reg_import.specs.Lines.{lines_of, is_known, is_shown, import_header, IsImportLine, IsEntryLine};
 ghost use Rattle.reg_import.specs.Listing.{AreGoneOf, WritesLines, PacksLines, IsListing};
+ghost use Rattle.reg_import.specs.Listed.{HasKeysOf, HasListed};
 
-use crate::action::TextAction;
-use crate::gone::gone;
+use crate::action::{TextAction, push_action};
+use crate::gone::{gone, put_key};
+use crate::index::OwnedKeyText;
 use crate::lines::{write_header, write_line};
-use crate::packed_action::PackedAction;
-use crate::reading::FileText;
+use crate::reading::{FileText, ReadText};
 use byte_packed::PackedRows;
 use csv::Writer;
 use reg_report::{Row, printed, write_fields};
 use reg_state::Register;
 use std::alloc::{AllocError, Global};
+use std::collections::BTreeSet;
 
 /// So many texts have their lines made at once.
 const CHUNK: usize = 64;
@@ -63,7 +68,7 @@ fn write_texts(
     wtr: &mut Writer<Vec<u8>>,
     listing: &Listing<'_>,
     texts: &[FileText],
-    told: &[PackedAction],
+    told: &[TextAction],
 ) -> Result<(), AllocError>
     requires { IsReady wtr.old }
     ensures { OnOk result (WritesLines (IsImportLine (map string_bytes listing.now.names.now)) (filter (is_shown listing.now.changes) (lines_of texts.now told.now)) wtr.old wtr.new) }
@@ -74,11 +79,29 @@ fn write_texts(
         texts.split_first(),
         told.split_first(),
     ) {
-        write_where_shown(alloc, wtr, listing, text, &this.get())?;
+        write_where_shown(alloc, wtr, listing, text, this)?;
         texts = others;
         told = later;
     }
     Ok(())
+}
+
+// Adds the key of a text, if entries are listed that no text has.
+fn note_key(
+    alloc: Global,
+    listing: &Listing<'_>,
+    keys: &mut BTreeSet<OwnedKeyText>,
+    reading: &ReadText,
+) -> Result<(), AllocError>
+    ensures { (rs : List ReadText) → HasKeysOf listing.now.gone rs keys.old → OnOk result (HasKeysOf listing.now.gone (rs ++ reading.now ∷ []) keys.new) }
+{
+    match listing.gone {
+        Some(_) => {
+            put_key(alloc, keys, reading)?;
+            Ok(())
+        }
+        None => Ok(()),
+    }
 }
 
 // The rows of the entries that are listed.
@@ -86,12 +109,15 @@ fn gone_rows(
     alloc: Global,
     listing: &Listing<'_>,
     register: &Register,
-    texts: &[FileText],
+    keys: &BTreeSet<OwnedKeyText>,
 ) -> Result<Vec<Row>, AllocError>
-    ensures { IfOk result (λ made. AreGoneOf listing.now.gone (readings texts.now) (rows register.now.ops) (map row_seen made.items)) }
+    ensures { (rs : List ReadText) → HasKeysOf listing.now.gone rs keys.now → IfOk result (λ made. AreGoneOf listing.now.gone rs (rows register.now.ops) (map row_seen made.items)) }
 {
     match listing.gone {
-        Some(authority) => gone(alloc, register, authority.as_bytes(), texts),
+        Some(authority) => {
+            let rows = gone(alloc, register, authority.as_bytes(), keys)?;
+            Ok(rows)
+        }
         None => Ok(Vec::new(alloc)),
     }
 }
@@ -160,7 +186,7 @@ fn texts_text(
     alloc: Global,
     listing: &Listing<'_>,
     texts: &[FileText],
-    told: &[PackedAction],
+    told: &[TextAction],
 ) -> Result<Vec<u8>, AllocError>
     ensures { IfOk result (λ text. AreLines (IsImportLine (map string_bytes listing.now.names.now)) (filter (is_shown listing.now.changes) (lines_of texts.now told.now)) text.items) }
 {
@@ -184,44 +210,6 @@ fn entries_text(alloc: Global, action: &[u8], rows: &[Row]) -> Result<Vec<u8>, A
     }
 }
 
-// How many texts have their lines made next, if there are any.
-fn next_count(texts: &[FileText], told: &[PackedAction]) -> Option<usize>
-    ensures some { IfSome result (λ n. 0 < n) }
-    ensures texts { IfSome result (λ n. n ≤ length texts.now) }
-    ensures told { IfSome result (λ n. n ≤ length told.now) }
-    ensures none { IfNone result ((length texts.now ≡ 0) ⊎ (length told.now ≡ 0)) }
-{
-    let n = texts.len().min(told.len()).min(CHUNK);
-    if n == 0 {
-        return None;
-    }
-    Some(n)
-}
-
-// These lines, and then those of the texts, some at a time.
-fn pack_texts(
-    alloc: Global,
-    listing: &Listing<'_>,
-    texts: &[FileText],
-    told: &[PackedAction],
-    lines: PackedRows,
-) -> Result<PackedRows, AllocError>
-    ensures { IfOk result (PacksLines (IsImportLine (map string_bytes listing.now.names.now)) (filter (is_shown listing.now.changes) (lines_of texts.now told.now)) lines) }
-{
-    let mut lines = lines;
-    let mut texts = texts;
-    let mut told = told;
-    while let Some(n) = next_count(texts, told) {
-        let (these, others) = texts.split_at(n);
-        let (now, later) = told.split_at(n);
-        let text = texts_text(alloc, listing, these, now)?;
-        lines = lines.with(&text)?;
-        texts = others;
-        told = later;
-    }
-    Ok(lines)
-}
-
 // These lines, and then those of the entries.
 fn pack_entries(
     alloc: Global,
@@ -243,22 +231,133 @@ fn pack_header(alloc: Global) -> Result<PackedRows, AllocError>
     PackedRows::new(alloc).with(&text)
 }
 
-/// A header; a line for each text that is not left out; a line for each entry to which a supersession passed on; and a line for
-/// each listed entry, by id. The register is the one after the import.
-pub fn lines_text(
-    alloc: Global,
-    listing: &Listing<'_>,
-    register: &Register,
-    texts: &[FileText],
-    told: &[PackedAction],
-    linked: &[Row],
-) -> Result<PackedRows, AllocError>
-    ensures { IfOk result (IsListing listing.now register.now.ops texts.now told.now (map row_seen linked.now)) }
+/// The lines of an import, as far as its texts are taken. The last of these wait until there are many, so that their lines are made at
+/// once. What is packed is boxed, so that it is not moved with each text.
+#[derive(Drop)]
+pub struct ImportLines {
+    packed: Box<PackedRows>,
+    texts: Vec<FileText>,
+    told: Vec<TextAction>,
+    keys: BTreeSet<OwnedKeyText>,
+}
+
+// Boxes packed lines.
+fn boxed(alloc: Global, rows: PackedRows) -> Result<Box<PackedRows>, AllocError>
+    ensures { IfOk result (λ boxed. boxed.value ≡ rows) }
 {
-    let lines = pack_header(alloc)?;
-    let lines = pack_texts(alloc, listing, texts, told, lines)?;
-    let lines = pack_entries(alloc, b"linked", linked, lines)?;
-    let rows = gone_rows(alloc, listing, register, texts)?;
-    let lines = pack_entries(alloc, b"gone", &rows, lines)?;
-    Ok(lines)
+    match Box::new(alloc, rows) {
+        Ok(boxed) => Ok(boxed),
+        Err(_) => Err(AllocError),
+    }
+}
+
+impl ImportLines {
+    /// The header alone.
+    pub fn new(alloc: Global) -> Result<ImportLines, AllocError>
+        ensures { IfOk result (λ w. (l : Listing) → HasListed l [] [] w) }
+    {
+        let header = pack_header(alloc)?;
+        let packed = boxed(alloc, header)?;
+        let texts = Vec::new(alloc);
+        let told = Vec::new(alloc);
+        let keys = BTreeSet::new(alloc);
+        Ok(ImportLines {
+            packed,
+            texts,
+            told,
+            keys,
+        })
+    }
+
+    /// One more text, with its action.
+    pub fn with(
+        self,
+        alloc: Global,
+        listing: &Listing<'_>,
+        text: FileText,
+        told: &TextAction,
+    ) -> Result<ImportLines, AllocError>
+        ensures { IfOk result (λ w. (texts : List FileText) (ts : List TextAction) → HasListed listing.now texts ts self
+            → HasListed listing.now (texts ++ text ∷ []) (ts ++ told.now ∷ []) w) }
+    {
+        let ImportLines {
+            packed,
+            mut texts,
+            told: mut actions,
+            mut keys,
+        } = self;
+        note_key(alloc, listing, &mut keys, &text.reading)?;
+        texts.push(text)?;
+        push_action(&mut actions, told)?;
+        let lines = ImportLines {
+            packed,
+            texts,
+            told: actions,
+            keys,
+        };
+        let lines = lines.unless_full(alloc, listing)?;
+        Ok(lines)
+    }
+
+    // The same. If so many texts wait, their lines are packed.
+    fn unless_full(self, alloc: Global, listing: &Listing<'_>) -> Result<ImportLines, AllocError>
+        ensures { IfOk result (λ w. (texts : List FileText) (ts : List TextAction) → HasListed listing.now texts ts self → HasListed listing.now texts ts w) }
+    {
+        if self.texts.len() < CHUNK {
+            return Ok(self);
+        }
+        let lines = self.settled(alloc, listing)?;
+        Ok(lines)
+    }
+
+    // The same, with no text that waits.
+    fn settled(self, alloc: Global, listing: &Listing<'_>) -> Result<ImportLines, AllocError>
+        ensures listed { IfOk result (λ w. (texts : List FileText) (ts : List TextAction) → HasListed listing.now texts ts self → HasListed listing.now texts ts w) }
+        ensures texts { IfOk result (λ w. w.texts.items ≡ []) }
+        ensures told { IfOk result (λ w. w.told.items ≡ []) }
+    {
+        let ImportLines {
+            packed,
+            texts,
+            told,
+            keys,
+        } = self;
+        let text = texts_text(alloc, listing, &texts, &told)?;
+        let rows = Box::into_inner(packed).with(&text)?;
+        let packed = boxed(alloc, rows)?;
+        let texts = Vec::new(alloc);
+        let told = Vec::new(alloc);
+        Ok(ImportLines {
+            packed,
+            texts,
+            told,
+            keys,
+        })
+    }
+
+    /// A header; a line for each text that is not left out; a line for each entry to which a supersession passed on; and a line for
+    /// each listed entry, by id. The register is the one after the import.
+    pub fn finish(
+        self,
+        alloc: Global,
+        listing: &Listing<'_>,
+        register: &Register,
+        linked: &[Row],
+    ) -> Result<PackedRows, AllocError>
+        ensures { IfOk result (λ rows. (texts : List FileText) (ts : List TextAction) → HasListed listing.now texts ts self
+            → IsListing listing.now register.now.ops texts ts (map row_seen linked.now) rows) }
+    {
+        let settled = self.settled(alloc, listing)?;
+        let ImportLines {
+            packed,
+            texts: _,
+            told: _,
+            keys,
+        } = settled;
+        let rows = Box::into_inner(packed);
+        let rows = pack_entries(alloc, b"linked", linked, rows)?;
+        let gone = gone_rows(alloc, listing, register, &keys)?;
+        let rows = pack_entries(alloc, b"gone", &gone, rows)?;
+        Ok(rows)
+    }
 }

@@ -1,36 +1,24 @@
-//! The action for each text, and its operations.
+//! The action for a text, and its operations.
 
 ghost use Rattle.std.specs.Prelude.{◌≡◌, ◌+◌, ◌<◌, ◌≤◌, ◌++◌, ◌∷◌, [], true, length, IfOk, OnOk};
-ghost use Rattle.reg_office.specs.Making.{greatest};
 ghost use Rattle.reg_import.specs.Known.{At};
-ghost use Rattle.reg_import.specs.Readings.{readings};
-ghost use Rattle.reg_import.specs.Imports.{entered, then_of, imports};
+ghost use Rattle.reg_import.specs.Imports.{entered, then_of};
 ghost use Rattle.reg_import.specs.Index.{entries_seen, Indexes};
-ghost use Rattle.reg_import.specs.Plans.{StepsOn, StepTold, Lists, Plans};
+ghost use Rattle.reg_import.specs.Plans.{StepsOn};
 
 use crate::action::{Differs, Problem, TextAction, told_of};
 use crate::entries_of_key::EntriesOfKey;
-use crate::index::{OwnedKeyText, index_of, put, take, text_of};
+use crate::index::{OwnedKeyText, put, take, text_of};
 use crate::making::{count_of, push_ops};
-use crate::packed_action::PackedAction;
-use crate::reading::{FileText, ReadText};
+use crate::reading::ReadText;
 use crate::standing_entry::StandingEntry;
 use crs_part::TryClone;
 use crs_value::Key;
-use reg_office::last_count;
 use reg_op::{Note, Op, OpId};
-use reg_state::Register;
 use std::alloc::{AllocError, Global};
 use std::collections::BTreeMap;
 use uuid::Uuid;
 use wkt_crs::Definition;
-
-/// The actions, and all operations.
-#[derive(Drop)]
-pub struct Plan {
-    pub told: Vec<PackedAction>,
-    pub ops: Vec<Op>,
-}
 
 /// The options that all texts of an import share: the conflict mode, and the replica, the first number and the note of
 /// the operations.
@@ -122,8 +110,9 @@ fn step_defined(
 ) -> Result<TextAction, AllocError>
     requires positive { 0 < rules.now.first }
     requires fits { rules.now.first + length made.old.ops.items ≤ 4294967296 }
-    ensures { IfOk result (λ t. (at : At) → Indexes made.old.index at
+    ensures told { IfOk result (λ t. (at : At) → Indexes made.old.index at
         → StepsOn rules.now.differs rules.now.replica (rules.now.first + length made.old.ops.items) rules.now.note.now (ReadText.Defined definition.now key.now) at made.new.index made.old.ops.items made.new.ops.items t) }
+    ensures fits { OnOk result (rules.now.first + length made.new.ops.items ≤ 4294967296) }
 {
     let count = count_after(rules, made);
     let text = text_of(alloc, key)?;
@@ -146,87 +135,24 @@ fn step_defined(
     Ok(told)
 }
 
-// Appends an action.
-fn push_action(told: &mut Vec<PackedAction>, action: TextAction) -> Result<(), AllocError>
-    ensures { OnOk result (told.new.items ≡ told.old.items ++ action ∷ []) }
-{
-    told.push(PackedAction::of(action))?;
-    Ok(())
-}
-
-// Imports a text, and appends its action.
-fn step(
+/// Imports a text. Returns its action.
+pub fn step(
     alloc: Global,
     rules: &Rules<'_>,
     made: &mut ImportState,
     reading: &ReadText,
-    told: &mut Vec<PackedAction>,
-) -> Result<(), AllocError>
+) -> Result<TextAction, AllocError>
     requires positive { 0 < rules.now.first }
     requires fits { rules.now.first + length made.old.ops.items ≤ 4294967296 }
-    ensures { OnOk result ((at : At) → Indexes made.old.index at
-        → StepTold rules.now.differs rules.now.replica (rules.now.first + length made.old.ops.items) rules.now.note.now reading.now at made.new.index made.old.ops.items made.new.ops.items told.old.items told.new.items) }
+    ensures told { IfOk result (λ t. (at : At) → Indexes made.old.index at
+        → StepsOn rules.now.differs rules.now.replica (rules.now.first + length made.old.ops.items) rules.now.note.now reading.now at made.new.index made.old.ops.items made.new.ops.items t) }
+    ensures fits { OnOk result (rules.now.first + length made.new.ops.items ≤ 4294967296) }
 {
     match reading {
-        ReadText::Unread(fault) => {
-            let this = TextAction::Refused(Problem::Unread(fault.get()));
-            push_action(told, this)?;
-            Ok(())
-        }
+        ReadText::Unread(fault) => Ok(TextAction::Refused(Problem::Unread(*fault))),
         ReadText::Defined { definition, key } => {
-            let this = step_defined(alloc, rules, made, definition, key.get())?;
-            push_action(told, this)?;
-            Ok(())
+            let told = step_defined(alloc, rules, made, definition, key.get())?;
+            Ok(told)
         }
     }
-}
-
-// Imports one text after another.
-fn plan_over(
-    alloc: Global,
-    index: BTreeMap<OwnedKeyText, EntriesOfKey>,
-    rules: &Rules<'_>,
-    texts: &[FileText],
-) -> Result<Plan, AllocError>
-    requires positive { 0 < rules.now.first }
-    requires fits { rules.now.first ≤ 4294967296 }
-    requires indexed { (at : At) × Indexes index at }
-    ensures lists { IfOk result (λ p. (at : At) → Indexes index at
-        → Lists rules.now.replica rules.now.first rules.now.note.now (imports rules.now.differs rules.now.replica rules.now.first at (readings texts.now)) p.told.items p.ops.items) }
-    ensures fits { IfOk result (λ p. rules.now.first + length p.ops.items ≤ 4294967296) }
-{
-    let mut told = Vec::with_capacity(alloc, texts.len())?;
-    let ops = Vec::new(alloc);
-    let mut made = ImportState { index, ops };
-    let mut rest = texts;
-    while let Some((text, others)) = rest.split_first() {
-        step(alloc, rules, &mut made, &text.reading, &mut told)?;
-        rest = others;
-    }
-    let ImportState { index: _, ops } = made;
-    Ok(Plan { told, ops })
-}
-
-/// The action for each text, given the register.
-pub fn plan_of(
-    alloc: Global,
-    register: &Register,
-    differs: Differs,
-    replica: Uuid,
-    note: &Note,
-    texts: &[FileText],
-) -> Result<Plan, AllocError>
-    ensures plans { IfOk result (λ p. Plans register.now replica note.now differs (readings texts.now) p.told.items p.ops.items) }
-    ensures fits { IfOk result (λ p. greatest replica register.now.seen + 1 + length p.ops.items ≤ 4294967296) }
-{
-    let index = index_of(alloc, register)?;
-    let first = u64::from(last_count(register.seen(), replica)) + 1;
-    let rules = Rules {
-        differs,
-        replica,
-        first,
-        note,
-    };
-    let plan = plan_over(alloc, index, &rules, texts)?;
-    Ok(plan)
 }

@@ -2,10 +2,8 @@
 
 ghost use Rattle.std.specs.Prelude.{◌≡◌, ◌+◌, ◌^◌, ◌≤◌, IfOk, IfSome, IfNone};
 ghost use Rattle.wkt_crs.specs.Definition.{IsKeyIn};
-ghost use Rattle.reg_import.specs.Quoted.{shown_quoted};
-ghost use Rattle.reg_import.specs.Readings.{IsReading, is_unread, place_in, name_bytes, quoted_in, IsFileText};
+ghost use Rattle.reg_import.specs.Readings.{IsReading, is_unread, place_in, quoted_in, IsFileText};
 
-use crate::packed::PackedFault;
 use crate::quoted::shown_quoted;
 use crs_part::{Boxed, TryClone};
 use crs_value::Key;
@@ -15,13 +13,13 @@ use wkt_crs::{Definition, DefinitionFault};
 /// The reading of a text.
 #[derive(Drop)]
 pub enum ReadText {
-    /// A definition, and its key, which is boxed so that a text without one takes little.
+    /// A definition, and its key.
     Defined {
         definition: Definition,
         key: Boxed<Key>,
     },
     /// Not a definition, for this reason.
-    Unread(PackedFault),
+    Unread(DefinitionFault),
 }
 
 impl ReadText {
@@ -40,15 +38,14 @@ impl ReadText {
 }
 
 /// A text of a file: the index of the file, from 0; the offset of its first byte; the offset that is reported if it is
-/// rejected; its reading; and, if it is no definition, its first text in quotation marks, unless that is empty. An import holds
-/// one for each text, so the numbers are small.
+/// rejected; its reading; and, if it is no definition, its first text in quotation marks.
 #[derive(Drop)]
 pub struct FileText {
-    pub file: u32,
-    pub place: u32,
-    pub at: u32,
+    pub file: usize,
+    pub place: usize,
+    pub at: usize,
     pub reading: ReadText,
-    pub quoted: Option<Boxed<Vec<u8>>>,
+    pub quoted: Vec<u8>,
 }
 
 /// The place of a text's fault, or its first byte, in the file, if it is a number of 64 bits. The text begins at this place.
@@ -68,16 +65,6 @@ pub fn told_at(place: usize, reading: &ReadText) -> Option<usize>
     }
 }
 
-// The number in 32 bits. Files are shorter, since the largest that is read has 67,108,864 bytes.
-fn small(number: usize) -> Result<u32, AllocError>
-    ensures { IfOk result (λ n. n ≡ number) }
-{
-    if number > u32::MAX as usize {
-        return Err(AllocError);
-    }
-    Ok(number as u32)
-}
-
 /// Reads a text that begins at this place of the file.
 pub fn read_at(
     alloc: Global,
@@ -93,9 +80,6 @@ pub fn read_at(
         return Err(AllocError);
     };
     let quoted = quoted_in(alloc, text, &reading)?;
-    let file = small(file)?;
-    let place = small(place)?;
-    let at = small(at)?;
     Ok(FileText {
         file,
         place,
@@ -106,33 +90,16 @@ pub fn read_at(
 }
 
 // The first text in quotation marks as UTF-8, in a text that is no definition.
-fn quoted_in(
-    alloc: Global,
-    text: &[u8],
-    reading: &ReadText,
-) -> Result<Option<Boxed<Vec<u8>>>, AllocError>
-    ensures { IfOk result (λ quoted. name_bytes quoted ≡ quoted_in text.now reading.now) }
+fn quoted_in(alloc: Global, text: &[u8], reading: &ReadText) -> Result<Vec<u8>, AllocError>
+    ensures { IfOk result (λ quoted. quoted.items ≡ quoted_in text.now reading.now) }
 {
     match reading {
         ReadText::Defined {
             definition: _,
             key: _,
-        } => Ok(None),
-        ReadText::Unread(_) => some_quoted(alloc, text),
+        } => Ok(Vec::new(alloc)),
+        ReadText::Unread(_) => shown_quoted(alloc, text),
     }
-}
-
-// The first text in quotation marks as UTF-8, if there is one, and it is not empty.
-fn some_quoted(alloc: Global, text: &[u8]) -> Result<Option<Boxed<Vec<u8>>>, AllocError>
-    ensures { IfOk result (λ quoted. name_bytes quoted ≡ shown_quoted text.now) }
-{
-    let shown = shown_quoted(alloc, text)?;
-    let bytes = shown.as_slice();
-    if bytes.is_empty() {
-        return Ok(None);
-    }
-    let boxed = Boxed::new(alloc, shown)?;
-    Ok(Some(boxed))
 }
 
 // The key of a definition.
@@ -154,6 +121,6 @@ fn read_text(alloc: Global, text: &[u8]) -> Result<ReadText, AllocError>
             Ok(ReadText::Defined { definition, key })
         }
         Err(DefinitionFault::Memory) => Err(AllocError),
-        Err(fault) => Ok(ReadText::Unread(PackedFault::of(fault))),
+        Err(fault) => Ok(ReadText::Unread(fault)),
     }
 }

@@ -15,7 +15,7 @@ use crate::import::fault::{ImportFault, Unimported};
 use crate::import::options::ImportOptions;
 use crate::import::texts::FileCut;
 use reg_engine::{CliFault, Refusal};
-use reg_import::{PackedFault, Problem, ReadText, told_at};
+use reg_import::{Problem, ReadText, told_at};
 use reg_office::OfficeFault;
 use reg_op::Note;
 use std::alloc::Global;
@@ -71,7 +71,7 @@ fn fault_in(alloc: Global, first: usize, cut: &FileCut<'_>) -> Option<ImportFaul
     let Some(fault) = unread(alloc, cut.bytes) else {
         return None;
     };
-    let Some(place) = told_at(cut.place, &ReadText::Unread(PackedFault::of(fault))) else {
+    let Some(place) = told_at(cut.place, &ReadText::Unread(fault)) else {
         return None;
     };
     let Some(file) = first.checked_add(cut.file) else {

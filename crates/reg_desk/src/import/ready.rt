@@ -1,26 +1,30 @@
 //! The result of an import, before anything is written.
 
-ghost use Rattle.std.specs.Prelude.{map, IfOk, IfErr};
+ghost use Rattle.std.specs.Prelude.{◌≡◌, ◌⊎◌, ◌≤◌, ℕ, List, true, false, length, map, None, Some, IfOk, IfErr, OnOk};
 ghost use Rattle.reg_op.specs.Contents.{Content};
-ghost use Rattle.reg_import.specs.Readings.{readings};
-ghost use Rattle.reg_desk.specs.ImportLinks.{IsUnlinked};
+ghost use Rattle.reg_import.specs.declared.reading.FileText.{FileText};
+ghost use Rattle.reg_import.specs.declared.action.TextAction.{TextAction};
+ghost use Rattle.reg_import.specs.Listed.{HasListed};
 ghost use Rattle.reg_desk.specs.ImportFiles.{bytes_of};
-ghost use Rattle.reg_desk.specs.ImportTexts.{text_at};
-ghost use Rattle.reg_desk.specs.Import.{AreLines, IsRefusedBy, MakesOf, IsUnmadeOf, Makes, IsUnmade, IsReadyIn, IsUnreadyIn};
+ghost use Rattle.reg_desk.specs.ImportTexts.{TextAt};
+ghost use Rattle.reg_desk.specs.ImportProgress.{HasCome, AllCome};
+ghost use Rattle.reg_desk.specs.Import.{listing_of, AreLines, MakesOf, IsUnmadeOf, Makes, IsUnmade, IsReadyIn, IsUnreadyIn};
 
-use crate::import::against::{passed_over, refused_here};
+use crate::import::against::first_against;
 use crate::import::fault::Unimported;
 use crate::import::files::read_files;
 use crate::import::first::run_out;
-use crate::import::linked::{LinkRefusal, Linked, import_linked};
+use crate::import::linked::{Linked, link_on};
 use crate::import::options::ImportOptions;
-use crate::import::texts::{FileCut, read_texts};
+use crate::import::progress::{Progress, listing_of, start};
+use crate::import::texts::take_texts;
 use byte_io::Source;
 use byte_packed::PackedRows;
 use reg_engine::{CliFault, Refusal, Store};
-use reg_import::{FileText, ImportRefusal, Listing, RefusedText, lines_text};
+use reg_import::ImportLines;
 use reg_links::old_rows;
 use reg_office::OfficeFault;
+use reg_op::Note;
 use reg_state::Register;
 use std::alloc::{AllocError, Global};
 
@@ -32,60 +36,21 @@ pub struct ReadyImport {
     pub passed: Option<Unimported>,
 }
 
-// Why no text is imported.
-fn refusal_of(
-    alloc: Global,
-    first: usize,
-    options: &ImportOptions<'_>,
-    files: &[Vec<u8>],
-    cuts: &[FileCut<'_>],
-    texts: &[FileText],
-    refusal: ImportRefusal,
-) -> Unimported
-    ensures { IsRefusedBy options.now first (bytes_of files.now) (map text_at cuts.now) texts.now refusal result }
+// The fault of the first refused text ends the import, unless refused texts are passed over.
+fn unless_ended(
+    keep_going: bool,
+    passed: Option<Unimported>,
+) -> Result<Option<Unimported>, Unimported>
+    ensures same { IfOk result (λ p. p ≡ passed) }
+    ensures goes { OnOk result ((keep_going ≡ true) ⊎ (passed ≡ None)) }
+    ensures ends { IfErr result (λ u. (keep_going ≡ false) × (passed ≡ Some u)) }
 {
-    match refusal {
-        ImportRefusal::NoteTooLong => {
-            Unimported::plain(
-                alloc,
-                CliFault::Refused(Refusal::Office(OfficeFault::NoteTooLong)),
-            )
-        }
-        ImportRefusal::CountSpent => {
-            Unimported::plain(
-                alloc,
-                CliFault::Refused(Refusal::Office(OfficeFault::CountSpent)),
-            )
-        }
-        ImportRefusal::Memory => Unimported::plain(alloc, CliFault::Memory),
-        ImportRefusal::Refused { at, problem } => {
-            let refused = RefusedText { at, problem };
-            match refused_here(alloc, first, options, files, cuts, texts, &refused) {
-                Ok(why) => why,
-                Err(_) => Unimported::plain(alloc, CliFault::Memory),
-            }
-        }
+    if keep_going {
+        return Ok(passed);
     }
-}
-
-// Why texts are not imported, or their links are not made.
-fn unlinked(
-    alloc: Global,
-    first: usize,
-    options: &ImportOptions<'_>,
-    files: &[Vec<u8>],
-    cuts: &[FileCut<'_>],
-    texts: &[FileText],
-    refusal: LinkRefusal,
-) -> Unimported
-    ensures { (x : Content) → IsUnlinked options.now x (readings texts.now) refusal
-        → IsUnmadeOf options.now first x (bytes_of files.now) (map text_at cuts.now) texts.now result }
-{
-    match refusal {
-        LinkRefusal::Import(refusal) => refusal_of(
-            alloc, first, options, files, cuts, texts, refusal,
-        ),
-        LinkRefusal::Office(fault) => Unimported::plain(alloc, CliFault::of_office(fault)),
+    match passed {
+        None => Ok(None),
+        Some(why) => Err(why),
     }
 }
 
@@ -93,49 +58,50 @@ fn unlinked(
 fn lines_of(
     alloc: Global,
     options: &ImportOptions<'_>,
-    texts: &[FileText],
+    lines: ImportLines,
     linked: &Linked,
 ) -> Result<PackedRows, AllocError>
-    ensures { IfOk result (AreLines options.now linked.now.register.ops texts.now linked.now.told.items linked.now.links.items) }
+    ensures { IfOk result (λ rows. (texts : List FileText) (ts : List TextAction) → HasListed (listing_of options.now) texts ts lines
+        → AreLines options.now linked.now.register.ops texts ts linked.now.links.items rows) }
 {
-    let listing = Listing {
-        names: options.names,
-        changes: options.changes,
-        gone: options.gone,
-    };
     let rows = old_rows(alloc, &linked.register, &linked.links)?;
-    let lines = lines_text(
-        alloc,
-        &listing,
-        &linked.register,
-        texts,
-        &linked.told,
-        &rows,
-    )?;
+    let lines = lines.finish(alloc, &listing_of(options), &linked.register, &rows)?;
     Ok(lines)
 }
 
-// Imports texts, and makes the lines.
-fn made_of(
+// Ends the import into the register, where all its texts were taken, or one at which it ends.
+fn ended(
     alloc: Global,
     register: Register,
     first: usize,
     options: &ImportOptions<'_>,
-    files: &[Vec<u8>],
-    cuts: &[FileCut<'_>],
-    texts: &[FileText],
+    progress: Progress,
 ) -> Result<ReadyImport, Unimported>
-    ensures made { IfOk result (λ r. MakesOf options.now first register (bytes_of files.now) (map text_at cuts.now) texts.now r.register r.lines r.passed) }
-    ensures fault { IfErr result (IsUnmadeOf options.now first register (bytes_of files.now) (map text_at cuts.now) texts.now) }
+    requires { (files : List (List ℕ)) × (cuts : List TextAt) × (texts : List FileText) × (ts : List TextAction) × HasCome options.now register files cuts texts ts progress }
+    ensures made { IfOk result (λ r. (files : List (List ℕ)) (cuts : List TextAt) (texts : List FileText) (ts : List TextAction) → HasCome options.now register files cuts texts ts progress
+        → MakesOf options.now first register files cuts texts r.register r.lines r.passed) }
+    ensures fault { IfErr result (λ u. (files : List (List ℕ)) (cuts : List TextAt) (texts : List FileText) (ts : List TextAction) → HasCome options.now register files cuts texts ts progress
+        → IsUnmadeOf options.now first register files cuts texts u) }
 {
-    let linked = match import_linked(alloc, register, options, texts) {
-        Ok(linked) => linked,
-        Err(refusal) => return Err(unlinked(alloc, first, options, files, cuts, texts, refusal)),
-    };
-    let Ok(passed) = passed_over(alloc, first, options, files, cuts, texts, &linked.told) else {
+    let Progress {
+        importing,
+        lines,
+        refused,
+        notes,
+        ends: _,
+    } = progress;
+    let Ok(passed) = first_against(first, &refused, notes) else {
         return Err(Unimported::plain(alloc, CliFault::Memory));
     };
-    match lines_of(alloc, options, texts, &linked) {
+    let passed = match unless_ended(options.keep_going, passed) {
+        Ok(passed) => passed,
+        Err(why) => return Err(why),
+    };
+    let linked = match link_on(alloc, register, options, importing) {
+        Ok(linked) => linked,
+        Err(fault) => return Err(Unimported::plain(alloc, CliFault::of_office(fault))),
+    };
+    match lines_of(alloc, options, lines, &linked) {
         Ok(lines) => Ok(ReadyImport {
             register: linked.register,
             lines,
@@ -143,6 +109,21 @@ fn made_of(
         }),
         Err(_) => Err(Unimported::plain(alloc, CliFault::Memory)),
     }
+}
+
+// Takes the texts of files of these bytes, for a register.
+fn progress_of(
+    alloc: Global,
+    register: &Register,
+    options: &ImportOptions<'_>,
+    files: &[Vec<u8>],
+) -> Result<Progress, AllocError>
+    requires { length options.now.note.now ≤ 200 }
+    ensures { IfOk result (AllCome options.now register.now (bytes_of files.now)) }
+{
+    let begun = start(alloc, register, options)?;
+    let progress = take_texts(alloc, options, files, begun)?;
+    Ok(progress)
 }
 
 // Imports the texts of files of these bytes.
@@ -157,18 +138,16 @@ fn made(
     ensures fault { IfErr result (IsUnmade options.now first register (bytes_of files.now)) }
 {
     let _content = register.seen();
-    let Ok(given) = read_texts(alloc, options.keep_going, options.explain, files) else {
+    if options.note.len() > Note::MAX {
+        return Err(Unimported::plain(
+            alloc,
+            CliFault::Refused(Refusal::Office(OfficeFault::NoteTooLong)),
+        ));
+    }
+    let Ok(progress) = progress_of(alloc, &register, options, files) else {
         return Err(run_out(alloc, first, options, files));
     };
-    match made_of(
-        alloc,
-        register,
-        first,
-        options,
-        files,
-        &given.cuts,
-        &given.texts,
-    ) {
+    match ended(alloc, register, first, options, progress) {
         Ok(ready) => Ok(ready),
         Err(why) => Err(why),
     }

@@ -1,13 +1,22 @@
-//! The texts of files: their places and readings.
+//! The texts of files, which an import takes one after another.
 
-ghost use Rattle.std.specs.Prelude.{◌≡◌, ◌++◌, ◌∷◌, [], map, not, ◌&&◌, IfOk, OnOk};
-ghost use Rattle.wkt_texts.specs.Texts.{piece_of};
+ghost use Rattle.std.specs.Prelude.{◌≡◌, [], ℕ, List, false, not, ◌&&◌, IfOk};
+ghost use Rattle.reg_op.specs.Contents.{Content};
+ghost use Rattle.reg_import.specs.declared.reading.FileText.{FileText};
+ghost use Rattle.reg_import.specs.declared.action.TextAction.{TextAction};
 ghost use Rattle.reg_import.specs.Readings.{is_unread};
+ghost use Rattle.reg_desk.specs.Import.{names_of};
 ghost use Rattle.reg_desk.specs.ImportFiles.{bytes_of};
-ghost use Rattle.reg_desk.specs.ImportTexts.{text_at, kept_if, OneMore, ReadsFile, Gives};
+ghost use Rattle.reg_desk.specs.ImportTexts.{TextAt, text_at};
+ghost use Rattle.reg_desk.specs.ImportNotes.{name_of, content_of};
+ghost use Rattle.reg_desk.specs.ImportProgress.{HasCome, OneMore, FileCome, AllCome};
 
-use reg_import::{FileText, ReadText, read_at};
+use crate::import::notes::name_of;
+use crate::import::options::ImportOptions;
+use crate::import::progress::{Progress, taken};
+use reg_import::{ReadText, read_at};
 use std::alloc::{AllocError, Global};
+use wkt_explain::Explainer;
 use wkt_texts::{Cut, begin, next_text};
 
 /// A text: the index of its file, from 0, the offset of its first byte there, and its bytes.
@@ -18,13 +27,6 @@ pub struct FileCut<'a> {
     pub bytes: &'a [u8],
 }
 
-/// Texts of files, if they are explained, and the reading of each.
-#[derive(Drop)]
-pub struct Given<'a> {
-    pub cuts: Vec<FileCut<'a>>,
-    pub texts: Vec<FileText>,
-}
-
 // Whether an import ends at a text with this reading, whatever the register is.
 fn ends_at(keep_going: bool, reading: &ReadText) -> bool
     ensures { result ≡ (not keep_going && is_unread reading.now) }
@@ -32,86 +34,74 @@ fn ends_at(keep_going: bool, reading: &ReadText) -> bool
     !keep_going && reading.is_unread()
 }
 
-// Appends a text, if texts are explained.
-fn push_cut<'a>(
-    explain: bool,
-    cuts: &mut Vec<FileCut<'a>>,
-    cut: FileCut<'a>,
-) -> Result<(), AllocError>
-    ensures { OnOk result (map text_at cuts.new.items ≡ map text_at cuts.old.items ++ kept_if explain (text_at cut.entry ∷ [])) }
+// Takes a text, of the file that the explainer has.
+fn take_text(
+    alloc: Global,
+    options: &ImportOptions<'_>,
+    name: &str,
+    explainer: &mut Explainer<'_>,
+    cut: &FileCut<'_>,
+    progress: Progress,
+) -> Result<Progress, AllocError>
+    ensures come { IfOk result (λ p. (x : Content) (files : List (List ℕ)) (cuts : List TextAt) (texts : List FileText) (ts : List TextAction)
+        → HasCome options.now x files cuts texts ts progress → name.now ≡ name_of (names_of options.now) cut.now.file → explainer.old ≡ content_of files cut.now.file
+        → OneMore options.now x files (text_at cut.now) cuts texts ts p) }
+    ensures file { explainer.new ≡ explainer.old }
 {
-    if !explain {
-        return Ok(());
-    }
-    cuts.push(cut)?;
-    Ok(())
+    let text = read_at(alloc, cut.file, cut.place, cut.bytes)?;
+    let ends = ends_at(options.keep_going, &text.reading);
+    let progress = taken(alloc, options, name, explainer, cut, text, ends, progress)?;
+    Ok(progress)
 }
 
-// Appends a text of a file, if texts are explained, and its reading. Returns whether the import ends there.
-fn push_text<'a>(
+// Takes the texts of a file, up to one at which the import ends.
+fn take_file(
     alloc: Global,
-    keep_going: bool,
-    explain: bool,
+    options: &ImportOptions<'_>,
     file: usize,
-    cut: &Cut<'a>,
-    cuts: &mut Vec<FileCut<'a>>,
-    texts: &mut Vec<FileText>,
-) -> Result<bool, AllocError>
-    ensures { IfOk result (λ ends. OneMore keep_going explain file (piece_of cut.now) ends (map text_at cuts.old.items) (map text_at cuts.new.items) texts.old.items texts.new.items) }
+    bytes: &[u8],
+    progress: Progress,
+) -> Result<Progress, AllocError>
+    ensures { IfOk result (λ p. (x : Content) (files : List (List ℕ)) (cuts : List TextAt) (texts : List FileText) (ts : List TextAction)
+        → HasCome options.now x files cuts texts ts progress → bytes.now ≡ content_of files file → progress.ends ≡ false → FileCome options.now x files file bytes.now cuts texts ts p) }
 {
-    let Cut { place, bytes } = *cut;
-    push_cut(explain, cuts, FileCut { file, place, bytes })?;
-    let text = read_at(alloc, file, place, bytes)?;
-    let ends = ends_at(keep_going, &text.reading);
-    texts.push(text)?;
-    Ok(ends)
-}
-
-// Appends the texts of a file, if they are explained, and their readings, up to one at which the import ends. Returns whether there
-// is one.
-fn read_file<'a>(
-    alloc: Global,
-    keep_going: bool,
-    explain: bool,
-    file: usize,
-    bytes: &'a [u8],
-    cuts: &mut Vec<FileCut<'a>>,
-    texts: &mut Vec<FileText>,
-) -> Result<bool, AllocError>
-    ensures { IfOk result (λ ends. ReadsFile keep_going explain file bytes.now ends (map text_at cuts.old.items) (map text_at cuts.new.items) texts.old.items texts.new.items) }
-{
+    let name = name_of(options.names, file);
+    let mut explainer = Explainer::new(bytes);
+    let mut progress = progress;
     let mut place = begin(bytes);
     let mut rest = &bytes[place..];
     while let Some((cut, later)) = next_text(place, rest) {
-        let ends = push_text(alloc, keep_going, explain, file, &cut, cuts, texts)?;
-        if ends {
-            return Ok(true);
+        let this = FileCut {
+            file,
+            place: cut.place,
+            bytes: cut.bytes,
+        };
+        progress = take_text(alloc, options, name, &mut explainer, &this, progress)?;
+        if progress.ends {
+            return Ok(progress);
         }
         place = cut.place + cut.bytes.len();
         rest = later;
     }
-    Ok(false)
+    Ok(progress)
 }
 
-/// The texts of the files, in order. Unless refused texts are passed over, they end with the first that is no definition: an import
-/// needs none after it. The readings are given in any case, and the texts themselves if they are explained.
-pub fn read_texts<'a>(
+/// Takes the texts of the files, in order, up to one at which the import ends: unless refused texts are passed over, the first that is
+/// no definition.
+pub fn take_texts(
     alloc: Global,
-    keep_going: bool,
-    explain: bool,
-    files: &'a [Vec<u8>],
-) -> Result<Given<'a>, AllocError>
-    ensures { IfOk result (λ g. Gives keep_going explain (bytes_of files.now) (map text_at g.cuts.items) g.texts.items) }
+    options: &ImportOptions<'_>,
+    files: &[Vec<u8>],
+    progress: Progress,
+) -> Result<Progress, AllocError>
+    ensures { IfOk result (λ p. (x : Content) → HasCome options.now x (bytes_of files.now) [] [] [] progress → progress.ends ≡ false → AllCome options.now x (bytes_of files.now) p) }
 {
-    let mut cuts = Vec::new(alloc);
-    let mut texts = Vec::new(alloc);
+    let mut progress = progress;
     for (file, bytes) in files.iter().enumerate() {
-        let ends = read_file(
-            alloc, keep_going, explain, file, bytes, &mut cuts, &mut texts,
-        )?;
-        if ends {
-            return Ok(Given { cuts, texts });
+        progress = take_file(alloc, options, file, bytes, progress)?;
+        if progress.ends {
+            return Ok(progress);
         }
     }
-    Ok(Given { cuts, texts })
+    Ok(progress)
 }

@@ -19,8 +19,8 @@ returns-in_ok-write_named-in-Defined c = (
 
 pub returns-in_ok-write_named-in-Unread : goal.returns-in_ok-write_named-in-Unread
 returns-in_ok-write_named-in-Unread c = (
-  line_fields (map string_bytes c.args.names.now) c.args.text.now c.args.told.now [] [] c.quoted_name-name.result.now,
-  subst (λ (r : ReadText). IsLineOf (map string_bytes c.args.names.now) c.args.text.now c.args.told.now r (line_fields (map string_bytes c.args.names.now) c.args.text.now c.args.told.now [] [] c.quoted_name-name.result.now))
-      (sym c.in-Unread.is) (ap (line_fields (map string_bytes c.args.names.now) c.args.text.now c.args.told.now [] []) c.quoted_name-name.ensures),
+  line_fields (map string_bytes c.args.names.now) c.args.text.now c.args.told.now [] [] c.deref.result.now,
+  subst (λ (r : ReadText). IsLineOf (map string_bytes c.args.names.now) c.args.text.now c.args.told.now r (line_fields (map string_bytes c.args.names.now) c.args.text.now c.args.told.now [] [] c.deref.result.now))
+      (sym c.in-Unread.is) (ap (line_fields (map string_bytes c.args.names.now) c.args.text.now c.args.told.now [] []) c.deref.ensures.value),
   c.in_ok-write_named-in-Unread.ensures,
 )

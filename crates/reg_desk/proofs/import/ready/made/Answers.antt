@@ -1,35 +1,33 @@
-use Rattle.std.proofs.Common.{List, map, subst, inl}
-use Rattle.reg_import.specs.declared.reading.FileText.{FileText}
-use Rattle.reg_desk.specs.declared.import.texts.FileCut.{FileCut}
+use Rattle.std.proofs.Common.{◌≡◌, refl, inl, inr, arith}
+use Rattle.reg_office.specs.declared.fault.OfficeFault.TheVariants as office
+use Rattle.reg_engine.specs.declared.fault.Refusal.TheVariants as refusal
+use Rattle.reg_engine.specs.declared.fault.CliFault.TheVariants as cli
 use Rattle.reg_desk.specs.ImportFiles.{bytes_of}
-use Rattle.reg_desk.specs.ImportTexts.{text_at}
-use Rattle.reg_desk.specs.Import.{MakesOf, IsUnmadeOf}
-use Rattle.reg_desk.proofs.GivenLemmas.{given_made, given_unmade, made_kept, unmade_kept}
+use Rattle.reg_desk.proofs.ImportEngineLemmas.{plain_is}
+use Rattle.reg_desk.proofs.GivenLemmas.{given_made, given_unmade}
 use Rattle.reg_desk.proofs.import.ready.made.Goals as goal
+
+pub returns-then-options-gt-MAX-clause-fault : goal.returns-then-options-gt-MAX-clause-fault
+returns-then-options-gt-MAX-clause-fault c = inl (inr (inl (
+  plain_is (λ f. f ≡ cli.Refused (refusal.Office office.NoteTooLong)) c.plain.result (cli.Refused (refusal.Office office.NoteTooLong)) c.plain.ensures.fault c.plain.ensures.notes refl,
+  omega arith,
+)))
+
+pub ended-requires : goal.ended-requires
+ended-requires c = let a = c.in-Ok.ensures in (bytes_of c.args.files.now, a.0, a.1, a.2, a.4)
 
 pub returns-in_default-clause-fault : goal.returns-in_default-clause-fault
 returns-in_default-clause-fault c = inl (c.run_out.ensures c.args.register c.seen-content.ensures.content)
 
-pub returns-in-Ok-made_of-clause-made : goal.returns-in-Ok-made_of-clause-made
-returns-in-Ok-made_of-clause-made c =
-    let o = c.args.options.now in
+pub returns-in-Ok-ended-clause-made : goal.returns-in-Ok-ended-clause-made
+returns-in-Ok-ended-clause-made c =
+    let a = c.in-Ok.ensures in
     let files = bytes_of c.args.files.now in
-    let given = c.in-Ok.given in
-    let gave = c.in-Ok.ensures in
-    let r = c.in-Ok-made_of.ready in
-    given_made o c.args.first c.args.register r.register files gave.0 given.texts.items r.lines r.passed gave.1
-    (made_kept o c.args.first files gave.0 (map text_at given.cuts.items) given.texts.items gave.2 c.args.register r.register r.lines r.passed
-    (subst (λ (ts : List FileText). MakesOf o c.args.first c.args.register files (map text_at given.cuts.items) ts r.register r.lines r.passed) c.deref-2.ensures.value
-    (subst (λ (cs : List FileCut). MakesOf o c.args.first c.args.register files (map text_at cs) c.deref-2.result.now r.register r.lines r.passed) c.deref.ensures.value c.in-Ok-made_of.ensures.made)))
+    let r = c.in-Ok-ended.ready in
+    given_made c.args.options.now c.args.first c.args.register r.register files a.0 a.1 r.lines r.passed a.3 (c.in-Ok-ended.ensures.made files a.0 a.1 a.2 a.4)
 
-pub returns-clause-fault : goal.returns-clause-fault
-returns-clause-fault c =
-    let o = c.args.options.now in
+pub returns-in-Err-clause-fault : goal.returns-in-Err-clause-fault
+returns-in-Err-clause-fault c =
+    let a = c.in-Ok.ensures in
     let files = bytes_of c.args.files.now in
-    let given = c.in-Ok.given in
-    let gave = c.in-Ok.ensures in
-    let u = c.in-Err.why in
-    given_unmade o c.args.first c.args.register files gave.0 given.texts.items u gave.1
-    (unmade_kept o c.args.first files gave.0 (map text_at given.cuts.items) given.texts.items gave.2 c.args.register u
-    (subst (λ (ts : List FileText). IsUnmadeOf o c.args.first c.args.register files (map text_at given.cuts.items) ts u) c.deref-2.ensures.value
-    (subst (λ (cs : List FileCut). IsUnmadeOf o c.args.first c.args.register files (map text_at cs) c.deref-2.result.now u) c.deref.ensures.value c.in-Err.ensures.fault)))
+    given_unmade c.args.options.now c.args.first c.args.register files a.0 a.1 c.in-Err.why a.3 (c.in-Err.ensures.fault files a.0 a.1 a.2 a.4)

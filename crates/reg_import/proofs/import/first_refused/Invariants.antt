@@ -1,6 +1,0 @@
-use Rattle.std.proofs.Common.{take}
-use Rattle.reg_import.specs.Imports.{NoneRefused}
-use Rattle.reg_import.proofs.import.first_refused.Given as goal
-
-abbrev pub invariant-loop-at : goal.invariant-loop-at
-invariant-loop-at l = NoneRefused (take l.at l.told)
