@@ -1,5 +1,7 @@
 mod FieldLemmas
 mod ColumnLemmas
 mod LawLemmas
+mod LineLemmas
 mod LossyLemmas
+mod ReadLemmas
 mod HiddenLemmas

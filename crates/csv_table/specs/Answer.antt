@@ -2,15 +2,14 @@
 use Rattle.std.specs.Prelude.{◌≡◌, ℕ, List}
 use Rattle.byte_io.specs.Device.{SinkState}
 use Rattle.byte_io.specs.Whole.{WritesAll, IsCutAt}
-use Rattle.csv.specs.Reading.{AreRecords, default_config, strip_bom}
-use Rattle.csv.specs.declared.parser.State.TheVariants as st
+use Rattle.csv_table.specs.Records.{ForRecords}
 use Rattle.csv_table.specs.Table.{table}
 use Rattle.csv_table.specs.declared.answer.TableFault.{TableFault}
 use Rattle.csv_table.specs.declared.answer.TableFault.TheVariants as fault
 
 -- the text is the table of the records of these rows: it has each field of each row, with marks
 abbrev pub IsTableOf : List ℕ → List ℕ → Type 0
-IsTableOf rows text = (records : List (List (List ℕ))) × AreRecords default_config st.StartRecord (strip_bom rows) records × (text ≡ table records)
+IsTableOf rows text = ForRecords rows (λ records. text ≡ table records)
 
 -- the table was written, and nothing else
 abbrev pub IsTold : List ℕ → SinkState → SinkState → Type 0

@@ -1,13 +1,12 @@
 //! The columns of a table: their widths, and which are named `entry`.
 
-ghost use Rattle.std.specs.Prelude.{◌≡◌, map, IfOk};
-ghost use Rattle.csv.specs.Records.{fields_of};
+ghost use Rattle.std.specs.Prelude.{◌≡◌, map, IfOk, if◌then◌else◌};
+ghost use Rattle.csv_table.specs.Records.{ForRecords};
 ghost use Rattle.csv_table.specs.Table.{named, fitted, first, others, widened, columns};
 
 use crate::cells::width;
 use crate::marks::marked;
-use crate::records::fields;
-use csv::ByteRecord;
+use crate::records::{each_record, fields};
 use std::alloc::{AllocError, Global};
 
 /// A column.
@@ -93,16 +92,34 @@ fn widened(alloc: Global, fields: &[&[u8]], columns: &[Column]) -> Result<Vec<Co
     Ok(made)
 }
 
-/// The columns of the records, each as wide as its widest field, but no wider than 60.
-pub fn columns(alloc: Global, records: &[ByteRecord]) -> Result<Vec<Column>, AllocError>
-    ensures { IfOk result (λ made. made.items ≡ columns (map fields_of records.now)) }
+// The columns after one more record. The header names them first.
+fn after(
+    alloc: Global,
+    is_header: bool,
+    fields: &[&[u8]],
+    columns: Vec<Column>,
+) -> Result<Vec<Column>, AllocError>
+    ensures { IfOk result (λ made. made.items ≡ widened (map (λ field. field.now) fields.now) (if is_header then map (λ name. named name.now) fields.now else columns.items)) }
 {
-    let Some((header, _)) = records.split_first() else {
-        return Ok(Vec::new(alloc));
-    };
-    let mut made = named_columns(alloc, &fields(alloc, header)?)?;
-    for record in records {
-        made = widened(alloc, &fields(alloc, record)?, &made)?;
+    if is_header {
+        let columns = named_columns(alloc, fields)?;
+        return widened(alloc, fields, &columns);
+    }
+    widened(alloc, fields, &columns)
+}
+
+/// The columns of the rows, each as wide as its widest field, but no wider than 60.
+pub fn columns(alloc: Global, rows: &[u8]) -> Result<Vec<Column>, AllocError>
+    ensures { IfOk result (λ made. ForRecords rows.now (λ records. made.items ≡ columns records)) }
+{
+    let mut made = Vec::new(alloc);
+    let mut is_header = true;
+    for row in each_record(alloc, rows) {
+        let Ok(row) = row else {
+            return Err(AllocError);
+        };
+        made = after(alloc, is_header, &fields(alloc, &row)?, made)?;
+        is_header = false;
     }
     Ok(made)
 }

@@ -1,14 +1,13 @@
 //! The lines of a table.
 
 ghost use Rattle.std.specs.Prelude.{◌≡◌, ◌++◌, map, IfOk, OnOk, string_bytes};
-ghost use Rattle.csv.specs.Records.{fields_of};
 ghost use Rattle.csv_table.specs.Answer.{IsTableOf};
+ghost use Rattle.csv_table.specs.Records.{ForRecords};
 ghost use Rattle.csv_table.specs.Table.{cell_if, cells, line, lines};
 
 use crate::cells::{push_cell, without_end};
 use crate::columns::{Column, columns, first, others};
-use crate::records::{fields, records};
-use csv::ByteRecord;
+use crate::records::{each_record, fields};
 use std::alloc::{AllocError, Global};
 
 /// The table of the rows, which are CSV with a header: the fields of each row, aligned in columns with two blanks between. The columns
@@ -16,25 +15,26 @@ use std::alloc::{AllocError, Global};
 pub fn table(alloc: Global, rows: &[u8]) -> Result<Vec<u8>, AllocError>
     ensures { IfOk result (λ text. IsTableOf rows.now text.items) }
 {
-    let Ok(records) = records(alloc, rows) else {
-        return Err(AllocError);
-    };
-    let columns = columns(alloc, &records)?;
+    let columns = columns(alloc, rows)?;
     let mut text = Vec::new(alloc);
-    push_lines(alloc, &mut text, &columns, &records)?;
+    push_lines(alloc, &mut text, &columns, rows)?;
     Ok(text)
 }
 
+// The rows are read a second time, which takes less memory than to keep the fields of all.
 fn push_lines(
     alloc: Global,
     text: &mut Vec<u8>,
     columns: &[Column],
-    records: &[ByteRecord],
+    rows: &[u8],
 ) -> Result<(), AllocError>
-    ensures { OnOk result (text.new.items ≡ text.old.items ++ lines columns.now (map fields_of records.now)) }
+    ensures { OnOk result (ForRecords rows.now (λ records. text.new.items ≡ text.old.items ++ lines columns.now records)) }
 {
-    for record in records {
-        push_line(alloc, text, columns, &fields(alloc, record)?)?;
+    for row in each_record(alloc, rows) {
+        let Ok(row) = row else {
+            return Err(AllocError);
+        };
+        push_line(alloc, text, columns, &fields(alloc, &row)?)?;
     }
     Ok(())
 }

@@ -1,23 +1,31 @@
 //! The records of rows, and the fields of a record.
 
-ghost use Rattle.std.specs.Prelude.{◌≡◌, map, IfOk};
+ghost use Rattle.std.specs.Prelude.{◌≡◌, [], map, IfOk};
 ghost use Rattle.csv.specs.Reading.{AreRecords, default_config, strip_bom};
 ghost use Rattle.csv.specs.Records.{fields_of};
 ghost use Rattle.csv.specs.declared.parser.State.TheVariants as st;
+ghost use Rattle.csv_table.specs.Records.{HasRead};
 
-use csv::{ByteRecord, Error, ReaderBuilder};
+use csv::{ByteRecord, ByteRecordsIntoIter, Error, ReaderBuilder};
 use std::alloc::{AllocError, Global};
 
-/// All records of the rows. They are read from memory, so the error is out of memory.
+/// The records of the rows, one after another. They are read from memory, so an error is out of memory.
+pub fn each_record(alloc: Global, text: &[u8]) -> ByteRecordsIntoIter<&[u8]>
+    ensures { HasRead text.now [] result }
+{
+    ReaderBuilder::new()
+        .has_headers(false)
+        .flexible(true)
+        .from_reader(alloc, text)
+        .into_byte_records()
+}
+
+/// All records of the rows.
 pub fn records(alloc: Global, text: &[u8]) -> Result<Vec<ByteRecord>, Error>
     ensures { IfOk result (λ rows. AreRecords default_config st.StartRecord (strip_bom text.now) (map fields_of rows.items)) }
 {
-    let rdr = ReaderBuilder::new()
-        .has_headers(false)
-        .flexible(true)
-        .from_reader(alloc, text);
     let mut rows = Vec::new(alloc);
-    for row in rdr.into_byte_records() {
+    for row in each_record(alloc, text) {
         if rows.push(row?).is_err() {
             return Err(Error::out_of_memory());
         }

@@ -143,6 +143,19 @@ module _ (was rs : List Row) where
   no_fault_each (w ∷ words) es f (e, later, s, l, is) (inl o) = no_fault w e f s o
   no_fault_each (w ∷ words) es f (e, later, s, l, is) (inr (d, t, o)) = no_fault_each words later f l o
 
+  -- ---- words that stand for entries in the join
+
+  stand_every : (words : List (List ℕ)) (es : List Id) → StandForEvery rs words es → MeanEvery was rs words es
+  stand_every [] es h = h
+  stand_every (w ∷ words) es (few, later, s, l, is) = (few, later, inl s, stand_every words later l, is)
+
+  stand_each : (words : List (List ℕ)) (es : List Id) → StandForEach rs words es → MeanEach was rs words es
+  stand_each [] es h = h
+  stand_each (w ∷ words) es (e, later, s, l, is) = (e, later, inl s, stand_each words later l, is)
+
+  pub there_both : (words newer : List (List ℕ)) (es fs : List Id) → StandForEvery rs words es → StandForEach rs newer fs → MeanBoth was rs words newer es fs
+  there_both words newer es fs every each = (stand_every words es every, stand_each newer fs each)
+
 -- ---- one register
 
 module _ (rs : List Row) where
@@ -151,18 +164,10 @@ module _ (rs : List Row) where
   every_stands (w ∷ words) es (few, later, inl s, l, is) = (few, later, s, every_stands words later l, is)
   every_stands (w ∷ words) es (few, later, inr (none, s), l, is) = (few, later, s, every_stands words later l, is)
 
-  stands_every : (words : List (List ℕ)) (es : List Id) → StandForEvery rs words es → MeanEvery rs rs words es
-  stands_every [] es h = h
-  stands_every (w ∷ words) es (few, later, s, l, is) = (few, later, inl s, stands_every words later l, is)
-
   each_stands : (words : List (List ℕ)) (es : List Id) → MeanEach rs rs words es → StandForEach rs words es
   each_stands [] es h = h
   each_stands (w ∷ words) es (e, later, inl s, l, is) = (e, later, s, each_stands words later l, is)
   each_stands (w ∷ words) es (e, later, inr (none, s), l, is) = (e, later, s, each_stands words later l, is)
-
-  stands_each : (words : List (List ℕ)) (es : List Id) → StandForEach rs words es → MeanEach rs rs words es
-  stands_each [] es h = h
-  stands_each (w ∷ words) es (e, later, s, l, is) = (e, later, inl s, stands_each words later l, is)
 
   stands_one : (word : List ℕ) (e : Id) → MeansOne rs rs word e → StandsFor rs word e
   stands_one word e (inl s) = s
@@ -183,7 +188,7 @@ module _ (rs : List Row) where
   fails_in (w ∷ words) n k f (inr (e, s, o)) = inr (e, inl s, fails_in words (n + 1) k f o)
 
   pub both_stand : (words newer : List (List ℕ)) (es fs : List Id) → MeanBoth rs rs words newer es fs ↔ StandForBoth rs words newer es fs
-  both_stand words newer es fs = (λ m. (every_stands words es m.0, each_stands newer fs m.1), λ s. (stands_every words es s.0, stands_each newer fs s.1))
+  both_stand words newer es fs = (λ m. (every_stands words es m.0, each_stands newer fs m.1), λ s. there_both rs rs words newer es fs s.0 s.1)
 
   pub both_fail : (words newer : List (List ℕ)) (f : KeyFault) → AreMeaningless rs rs words newer f ↔ FailForBoth rs words newer f
   both_fail words newer f = (to, from)
@@ -194,4 +199,4 @@ module _ (rs : List Row) where
 
       from : FailForBoth rs words newer f → AreMeaningless rs rs words newer f
       from (inl (k, o)) = inl (fails_in words 0 k f o)
-      from (inr (es, s, (k, o))) = inr (es, stands_every words es s, fails_in newer 0 k f o)
+      from (inr (es, s, (k, o))) = inr (es, stand_every rs rs words es s, fails_in newer 0 k f o)

@@ -1,5 +1,5 @@
 -- Texts that are read up to one that is no definition are refused as all texts of the files are.
-use Rattle.std.proofs.Common.{◌≡◌, ◌⊎◌, ℕ, ◌+◌, ◌^◌, ◌≤◌, Bool, true, false, cond, length, List, [], ◌∷◌, ◌++◌, Some, None, append-nil, refl, sym, ap, ◌∙◌, subst, inl, inr, zero, suc}
+use Rattle.std.proofs.Common.{◌≡◌, ◌⊎◌, ℕ, ◌+◌, ◌^◌, ◌≤◌, Bool, true, false, cond, length, List, [], ◌∷◌, ◌++◌, Some, append-nil, refl, sym, ap, ◌∙◌, subst, inl, inr, zero, suc}
 use Rattle.std.specs.Prelude.{option_map, Option}
 use Rattle.std.specs.Option.{unwrap_or}
 use Rattle.std.specs.List.{list_any, slice_get}
@@ -30,7 +30,7 @@ use Rattle.reg_desk.specs.declared.import.fault.Unimported.{Unimported}
 use Rattle.reg_desk.specs.ImportTexts.{TextAt, AreRead, HaveTexts, AreGiven}
 use Rattle.reg_desk.specs.ImportLinks.{IsOnlyImported}
 use Rattle.reg_desk.specs.ImportNotes.{note_of}
-use Rattle.reg_desk.specs.Import.{names_of, IsAgainst, if_explained, note_at, all_notes, IsRefusedAt, IsPassed, MakesOf, Makes, IsUncounted, TakesMemory, IsRefusedBy, IsUnmadeOf, IsFaultOf, EndsAtFirst, IsUnmade, IsPlain}
+use Rattle.reg_desk.specs.Import.{names_of, IsAgainst, if_explained, note_at, IsRefusedAt, MakesOf, Makes, IsUncounted, TakesMemory, IsRefusedBy, IsUnmadeOf, IsFaultOf, EndsAtFirst, IsUnmade, IsPlain}
 use Rattle.reg_desk.proofs.SameTexts.{same_reading, one_cuts, one_read}
 
 -- ---- the first of all readings

@@ -1,5 +1,5 @@
 -- The loops that take the texts of files.
-use Rattle.std.proofs.Common.{◌≡◌, ◌∷◌, ◌++◌, [], List, ℕ, zero, suc, ◌+◌, Bool, true, false, not, length, map, drop, append_assoc, append-nil, refl, ap, sym, subst, arith, inl, inr, ◌∙◌}
+use Rattle.std.proofs.Common.{◌≡◌, ◌∷◌, ◌++◌, [], List, ℕ, zero, suc, ◌+◌, true, false, not, length, map, drop, append_assoc, append-nil, refl, ap, sym, subst, arith, inl, inr, ◌∙◌}
 use Rattle.std.specs.Global.{Vec}
 use Rattle.std.specs.List.{AllPass, list_any}
 use Rattle.std.proofs.lemmas.Bool.{true≢false, and_parts, or_left, or_right, not-true}
@@ -15,7 +15,7 @@ use Rattle.reg_import.specs.Readings.{is_unread, readings}
 use Rattle.reg_desk.specs.declared.import.options.ImportOptions.{ImportOptions}
 use Rattle.reg_desk.specs.declared.import.progress.Progress.{Progress}
 use Rattle.reg_desk.specs.ImportFiles.{bytes_of}
-use Rattle.reg_desk.specs.ImportTexts.{TextAt, in_file, AreCuts, AreRead, BeginWith, AreGiven}
+use Rattle.reg_desk.specs.ImportTexts.{TextAt, in_file, AreCuts, AreRead, BeginWith}
 use Rattle.reg_desk.specs.ImportNotes.{content_of}
 use Rattle.reg_desk.specs.ImportProgress.{HasCome, OneMore, FileCome, AllCome}
 

@@ -28,7 +28,7 @@ use Rattle.reg_import.proofs.AtOnceLemmas.{imported_may}
 use Rattle.reg_links.specs.declared.link.Link.{Link}
 use Rattle.reg_links.specs.Links.{links_in}
 use Rattle.reg_links.specs.Passing.{PassesOn, IsNotPassedOn}
-use Rattle.reg_desk.specs.ImportLinks.{ImportsLinked, IsOnlyImported, IsUnlinked}
+use Rattle.reg_desk.specs.ImportLinks.{ImportsLinked, IsUnlinked}
 use Rattle.reg_desk.specs.Import.{IsUnmadeOf}
 use Rattle.reg_desk.proofs.ImportEngineLemmas.{plain_is}
 

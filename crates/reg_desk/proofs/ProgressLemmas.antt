@@ -1,13 +1,12 @@
 -- An import that has taken the first texts of its files.
-use Rattle.std.proofs.Common.{◌≡◌, ◌⊎◌, ℕ, ◌+◌, ◌^◌, ◌≤◌, zero, suc, Bool, true, false, not, ◌&&◌, cond, List, [], ◌∷◌, ◌++◌, append_assoc, append-nil, length, length-append, take, Some, None, ◌||◌, refl, sym, ap, ◌∙◌, subst, arith, inl, inr}
+use Rattle.std.proofs.Common.{◌≡◌, ◌⊎◌, ℕ, ◌+◌, ◌^◌, ◌≤◌, zero, suc, Bool, true, false, ◌&&◌, cond, List, [], ◌∷◌, ◌++◌, append_assoc, append-nil, length, length-append, take, Some, None, ◌||◌, refl, sym, ap, ◌∙◌, subst, arith, inl, inr}
 use Rattle.std.specs.Prelude.{Option, option_map, if◌then◌else◌}
 use Rattle.std.specs.Option.{unwrap_or}
-use Rattle.std.specs.List.{list_any, slice_get}
+use Rattle.std.specs.List.{slice_get}
 use Rattle.std.proofs.lemmas.Bool.{true≢false}
 use Rattle.std.proofs.lemmas.List.{map-append}
 use Rattle.std.proofs.lemmas.List.Folds.{list_any-append}
 use Rattle.reg_op.specs.Contents.{Content}
-use Rattle.reg_op.specs.declared.operation.OpBody.{OpBody as Body}
 use Rattle.reg_import.specs.declared.reading.FileText.{FileText}
 use Rattle.reg_import.specs.declared.action.Problem.{Problem}
 use Rattle.reg_import.specs.declared.action.Problem.TheVariants as problem
@@ -32,7 +31,7 @@ use Rattle.reg_desk.specs.declared.import.progress.Progress.{Progress}
 use Rattle.reg_desk.specs.ImportTexts.{TextAt}
 use Rattle.reg_desk.specs.ImportNotes.{note_of, notes_of}
 use Rattle.reg_desk.specs.ImportLinks.{ImportsLinked}
-use Rattle.reg_desk.specs.Import.{names_of, listing_of, IsPlain, IsAgainst, if_explained, note_at, all_notes, IsPassed, AreLines, MakesOf, IsUncounted, IsUnmadeOf}
+use Rattle.reg_desk.specs.Import.{names_of, listing_of, IsPlain, IsAgainst, if_explained, all_notes, IsPassed, AreLines, MakesOf, IsUncounted, IsUnmadeOf}
 use Rattle.reg_desk.specs.ImportProgress.{first_of, explains, IsFirst, HasFirst, HasCome, IsFaultOfFirst, IsTooFar}
 
 -- ---- lists

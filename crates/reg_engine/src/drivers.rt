@@ -49,6 +49,8 @@ pub fn run_print<T: Store, C: Print, K: Sink>(
         Ok(text) => text,
         Err(fault) => return Err(fault),
     };
+    // The text takes enough memory by itself.
+    drop(register);
     match write_all(sink, &text) {
         Ok(()) => Ok(()),
         Err(fault) => Err(CliFault::Out(OutFault::WriteFailed(fault.written))),

@@ -1,5 +1,5 @@
 -- The lines of an import, as far as its texts are taken.
-use Rattle.std.proofs.Common.{◌≡◌, ℕ, ◌+◌, zero, suc, List, [], ◌∷◌, ◌++◌, append_assoc, append-nil, length, length-append, filter, map, Some, None, refl, sym, ap, ◌∙◌, subst, arith}
+use Rattle.std.proofs.Common.{◌≡◌, ℕ, ◌+◌, List, [], ◌∷◌, ◌++◌, append_assoc, append-nil, length, length-append, filter, map, Some, None, refl, sym, ap, ◌∙◌, subst, arith}
 use Rattle.std.specs.Prelude.{Option}
 use Rattle.std.specs.Borrow.{Bor}
 use Rattle.std.specs.BTreeMap.{is_at}
@@ -11,7 +11,7 @@ use Rattle.std.proofs.lemmas.List.{map-append}
 use Rattle.std.proofs.lemmas.List.Elements.{filter-append}
 use Rattle.csv.specs.Writing.{row_text, default_writer}
 use Rattle.reg_report.specs.Lines.{AreLines}
-use Rattle.reg_import.specs.declared.index.OwnedKeyText.{OwnedKeyText}
+use Rattle.reg_import.specs.declared.indexed_key.IndexedKey.{IndexedKey}
 use Rattle.reg_import.specs.declared.listing.Listing.{Listing}
 use Rattle.reg_import.specs.declared.listing.ImportLines.{ImportLines}
 use Rattle.reg_import.specs.declared.reading.FileText.{FileText}
@@ -95,14 +95,14 @@ listed_lines l texts ts w no_texts no_told h =
 
 -- ---- keys
 
-no_key : (keys : BTreeSet OwnedKeyText) → keys.keys ≡ [] → HasKeys keys []
+no_key : (keys : BTreeSet IndexedKey) → keys.keys ≡ [] → HasKeys keys []
 no_key keys e q = (λ yes. absurd (true≢false (sym yes ∙ ap (list_any (is_at (text_cmp q))) e)), λ h. absurd (none_in (key_bytes q) h))
 
-pub no_keys : (authority : Option (Bor (List ℕ))) (keys : BTreeSet OwnedKeyText) → keys.keys ≡ [] → HasKeysOf authority [] keys
+pub no_keys : (authority : Option (Bor (List ℕ))) (keys : BTreeSet IndexedKey) → keys.keys ≡ [] → HasKeysOf authority [] keys
 no_keys None keys e = tt
 no_keys (Some a) keys e = no_key keys e
 
-pub more_keys : (authority : Option (Bor (List ℕ))) (a : Bor (List ℕ)) (rs : List ReadText) (r : ReadText) (old new : BTreeSet OwnedKeyText) → authority ≡ Some a → HasKeysOf authority rs old
+pub more_keys : (authority : Option (Bor (List ℕ))) (a : Bor (List ℕ)) (rs : List ReadText) (r : ReadText) (old new : BTreeSet IndexedKey) → authority ≡ Some a → HasKeysOf authority rs old
     → ((before : List KeyBytes) → HasKeys old before → HasKeys new (before ++ keys_in (r ∷ []))) → HasKeysOf authority (rs ++ r ∷ []) new
 more_keys None a rs r old new is has more = absurd cc
 more_keys (Some b) a rs r old new is has more = subst (HasKeys new) (sym (keys_in-append rs (r ∷ []))) (more (keys_in rs) has)

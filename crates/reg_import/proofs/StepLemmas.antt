@@ -1,5 +1,5 @@
 -- The plan of an import, one text at a time.
-use Rattle.std.proofs.Common.{◌≡◌, ℕ, ◌+◌, ◌≤◌, List, [], ◌∷◌, ◌++◌, append_assoc, append-nil, length, length-append, add-zero, refl, sym, ap, ◌∙◌, subst, arith}
+use Rattle.std.proofs.Common.{◌≡◌, ℕ, ◌+◌, ◌≤◌, List, ◌++◌, append-nil, length, length-append, refl, sym, ap, ◌∙◌, subst, arith}
 use Rattle.std.specs.BTreeMap.{BTreeMap}
 use Rattle.crs_value.specs.declared.key.Key.{Key}
 use Rattle.wkt_crs.specs.declared.definition.DefinitionFault.{DefinitionFault}
@@ -11,7 +11,7 @@ use Rattle.reg_report.specs.Conflicts.{bytes_of}
 use Rattle.reg_office.specs.Making.{numbered}
 use Rattle.reg_office.proofs.NumberLemmas.{length_map}
 use Rattle.reg_import.specs.declared.standing_entry.StandingEntry.{StandingEntry}
-use Rattle.reg_import.specs.declared.index.OwnedKeyText.{OwnedKeyText}
+use Rattle.reg_import.specs.declared.indexed_key.IndexedKey.{IndexedKey}
 use Rattle.reg_import.specs.declared.entries_of_key.EntriesOfKey.{EntriesOfKey}
 use Rattle.reg_import.specs.declared.reading.ReadText.{ReadText}
 use Rattle.reg_import.specs.declared.reading.ReadText.TheVariants as reading
@@ -24,9 +24,9 @@ use Rattle.reg_import.specs.Index.{key_bytes, entries_seen, nothing_there, Index
 use Rattle.reg_op.specs.Ids.{Id}
 use Rattle.reg_import.specs.declared.summary.Found.{Found}
 use Rattle.reg_import.specs.Summary.{found, told_by}
-use Rattle.reg_import.specs.Imports.{least, any_entry, told_of, bodies_of, then_of, told_at, bodies_at, then_at, Step, imports, tolds, effects}
+use Rattle.reg_import.specs.Imports.{least, any_entry, told_of, bodies_of, then_of}
 use Rattle.reg_import.specs.Plans.{StepsOn}
-use Rattle.reg_import.proofs.NumberedLemmas.{numbered_append, length_numbered}
+use Rattle.reg_import.proofs.NumberedLemmas.{length_numbered}
 use Rattle.reg_import.proofs.KnownLemmas.{put_again}
 use Rattle.reg_import.proofs.ToldLemmas.{told_has}
 
@@ -54,7 +54,7 @@ told_fits d r n there text given t e same h = subst (λ u. n + length (bodies_of
 
 -- ---- one text
 
-module _ (d : Differs) (r : List ℕ) (n : ℕ) (note text : List ℕ) (key : Key) (at : At) (kt : OwnedKeyText) (b b' : EntriesOfKey) (m : BTreeMap OwnedKeyText EntriesOfKey) (old new : List Op) (t : TextAction) where
+module _ (d : Differs) (r : List ℕ) (n : ℕ) (note text : List ℕ) (key : Key) (at : At) (kt : IndexedKey) (b b' : EntriesOfKey) (m : BTreeMap IndexedKey EntriesOfKey) (old new : List Op) (t : TextAction) where
   pub step_is : key_bytes kt ≡ bytes_of key → entries_seen b ≡ at (key_bytes kt) → t ≡ told_of d (id_at r n) (entries_seen b) text → new ≡ old ++ numbered r n note (bodies_of t text b.known.items)
       → entries_seen b' ≡ then_of t key text (entries_seen b) → Indexes m (with_key (key_bytes kt) (entries_seen b') (with_key (key_bytes kt) nothing_there at))
       → StepsOn d r n note (reading.Defined text key) at m old new t
@@ -66,13 +66,13 @@ module _ (d : Differs) (r : List ℕ) (n : ℕ) (note text : List ℕ) (key : Ke
       }
 
 -- a text that is no definition is refused, and makes nothing
-pub step_unread : (d : Differs) (r : List ℕ) (n : ℕ) (note : List ℕ) (text : ReadText) (at : At) (m : BTreeMap OwnedKeyText EntriesOfKey) (ops : List Op) (f : DefinitionFault)
+pub step_unread : (d : Differs) (r : List ℕ) (n : ℕ) (note : List ℕ) (text : ReadText) (at : At) (m : BTreeMap IndexedKey EntriesOfKey) (ops : List Op) (f : DefinitionFault)
     → text ≡ reading.Unread f → Indexes m at → StepsOn d r n note text at m ops ops (told.Refused (problem.Unread f))
 step_unread d r n note text at m ops f is index =
     subst (λ (t : ReadText). StepsOn d r n note t at m ops ops (told.Refused (problem.Unread f))) (sym is) (record { told = refl; made = sym (append-nil ops); index = index })
 
 -- a definition has its action, with a key that is the same
-pub step_defined_by : (d : Differs) (r : List ℕ) (n : ℕ) (note : List ℕ) (text : ReadText) (at : At) (m : BTreeMap OwnedKeyText EntriesOfKey) (old new : List Op) (t : TextAction) (definition : List ℕ) (key its : Key)
+pub step_defined_by : (d : Differs) (r : List ℕ) (n : ℕ) (note : List ℕ) (text : ReadText) (at : At) (m : BTreeMap IndexedKey EntriesOfKey) (old new : List Op) (t : TextAction) (definition : List ℕ) (key its : Key)
     → text ≡ reading.Defined definition key → its ≡ key → StepsOn d r n note (reading.Defined definition its) at m old new t → StepsOn d r n note text at m old new t
 step_defined_by d r n note text at m old new t definition key its is same steps =
     subst (λ (u : ReadText). StepsOn d r n note u at m old new t) (sym is) (subst (λ (k : Key). StepsOn d r n note (reading.Defined definition k) at m old new t) same steps)
@@ -84,6 +84,6 @@ then_fits r first n note old new bs made at fits =
     omega (arith, long, at, fits)
 
 -- putting an entry into the index appends it to the entries of its key
-pub entry_put : (kt : OwnedKeyText) (b b' : EntriesOfKey) (e : StandingEntry) (m : BTreeMap OwnedKeyText EntriesOfKey) (at : At) → key_bytes kt ≡ key_of e → entries_seen b ≡ at (key_bytes kt) → entries_seen b' ≡ and_entry e (entries_seen b)
+pub entry_put : (kt : IndexedKey) (b b' : EntriesOfKey) (e : StandingEntry) (m : BTreeMap IndexedKey EntriesOfKey) (at : At) → key_bytes kt ≡ key_of e → entries_seen b ≡ at (key_bytes kt) → entries_seen b' ≡ and_entry e (entries_seen b)
     → Indexes m (with_key (key_bytes kt) (entries_seen b') (with_key (key_bytes kt) nothing_there at)) → Indexes m (with_entry e at)
 entry_put kt b b' e m at k there now index q = index q ∙ put_again (key_bytes kt) (key_of e) (entries_seen b') (and_entry e (at (key_of e))) nothing_there at (key_bytes q) k (now ∙ ap (and_entry e) (there ∙ ap at k))

@@ -1,16 +1,16 @@
 -- The summary of entries, with one more entry.
-use Rattle.std.proofs.Common.{◌≡◌, ℕ, Bool, true, false, ◌&&◌, cond, List, [], ◌∷◌, ◌++◌, Option, Some, None, refl, sym, ap, ◌∙◌}
+use Rattle.std.proofs.Common.{◌≡◌, Bool, true, false, ◌&&◌, cond, List, [], ◌∷◌, ◌++◌, Option, Some, None, refl, sym, ap, ◌∙◌}
 use Rattle.std.specs.Cmp.{Equal-is}
 use Rattle.std.proofs.lemmas.Cmp.{upto}
 use Rattle.std.specs.FinMap.{slice_cmp-IsAntisymmetric, nat_cmp-IsAntisymmetric}
 use Rattle.std.specs.Cmp.Lexicographic.{slice_cmp, texts_ties}
 use Rattle.std.specs.Ordering.{is_lt, is_gt, is_eq, nat_cmp, ordering_reverse}
 use Rattle.std.specs.BTreeMap.{get}
-use Rattle.std.specs.Global.{Vec}
 use Rattle.std.specs.declared.cmp.Ordering.{Ordering}
 use Rattle.std.specs.declared.cmp.Ordering.TheVariants.{Less, Equal, Greater}
 use Rattle.reg_op.specs.Ids.{Id, id_cmp, is_before}
 use Rattle.reg_op.proofs.OpLemmas.{id_total, is_before_chain}
+use Rattle.reg_import.specs.declared.indexed_text.IndexedText.{IndexedText}
 use Rattle.reg_import.specs.declared.standing_entry.StandingEntry.{StandingEntry}
 use Rattle.reg_import.specs.declared.summary.Found.{Found}
 use Rattle.reg_import.specs.declared.summary.Summary.{Summary}
@@ -67,32 +67,32 @@ least_push passes (a ∷ es) e =
 
 -- ---- the least entries with a text, with one more entry
 
-module _ (es : List StandingEntry) (e : StandingEntry) (k q : Vec ℕ) (before : Option Found) (v : Found) where
-  found_of : (b : Bool) → is_eq (slice_cmp nat_cmp k.items q.items) ≡ b → k.items ≡ e.definition → found_in before ≡ found q.items es
-      → (at : Found) → at ≡ found k.items es → v.any ≡ and_least true at.any e.entry → v.valid ≡ and_least e.valid at.valid e.entry
-      → found_in (cond b (Some v) before) ≡ found q.items (es ++ e ∷ [])
+module _ (es : List StandingEntry) (e : StandingEntry) (k q : IndexedText) (before : Option Found) (v : Found) where
+  found_of : (b : Bool) → is_eq (slice_cmp nat_cmp k.definition q.definition) ≡ b → k.definition ≡ e.definition → found_in before ≡ found q.definition es
+      → (at : Found) → at ≡ found k.definition es → v.any ≡ and_least true at.any e.entry → v.valid ≡ and_least e.valid at.valid e.entry
+      → found_in (cond b (Some v) before) ≡ found q.definition (es ++ e ∷ [])
   found_of b h is there at at_is any valid =
-      let has : has_text q.items e ≡ b = texts_ties e.definition q.items ∙ (λ j. is_eq (slice_cmp nat_cmp (sym is j) q.items)) ∙ h in
+      let has : has_text q.definition e ≡ b = texts_ties e.definition q.definition ∙ (λ j. is_eq (slice_cmp nat_cmp (sym is j) q.definition)) ∙ h in
       by_case b h has
       ∙ (λ j. record {
-        any = sym (least_push (has_text q.items) es e ∙ (λ i. and_least (has i) (least (has_text q.items) es) e.entry)) j;
-        valid = sym (least_push (has_text_and_is_valid q.items) es e ∙ (λ i. and_least (has i && e.valid) (least (has_text_and_is_valid q.items) es) e.entry)) j;
+        any = sym (least_push (has_text q.definition) es e ∙ (λ i. and_least (has i) (least (has_text q.definition) es) e.entry)) j;
+        valid = sym (least_push (has_text_and_is_valid q.definition) es e ∙ (λ i. and_least (has i && e.valid) (least (has_text_and_is_valid q.definition) es) e.entry)) j;
       })
     where
-      by_case : (b : Bool) → is_eq (slice_cmp nat_cmp k.items q.items) ≡ b → has_text q.items e ≡ b → found_in (cond b (Some v) before)
-          ≡ record { any = and_least b (least (has_text q.items) es) e.entry; valid = and_least (b && e.valid) (least (has_text_and_is_valid q.items) es) e.entry }
+      by_case : (b : Bool) → is_eq (slice_cmp nat_cmp k.definition q.definition) ≡ b → has_text q.definition e ≡ b → found_in (cond b (Some v) before)
+          ≡ record { any = and_least b (least (has_text q.definition) es) e.entry; valid = and_least (b && e.valid) (least (has_text_and_is_valid q.definition) es) e.entry }
       by_case true h has =
-          let same : k.items ≡ q.items = slice_cmp-IsAntisymmetric nat_cmp-IsAntisymmetric _ _ ((Equal-is (slice_cmp nat_cmp k.items q.items)).0 h) in
-          let here : at ≡ found q.items es = at_is ∙ (λ j. found (same j) es) in
+          let same : k.definition ≡ q.definition = slice_cmp-IsAntisymmetric nat_cmp-IsAntisymmetric _ _ ((Equal-is (slice_cmp nat_cmp k.definition q.definition)).0 h) in
+          let here : at ≡ found q.definition es = at_is ∙ (λ j. found (same j) es) in
           λ j. record {
             any = (any ∙ (λ i. and_least true (here i).any e.entry)) j;
             valid = (valid ∙ (λ i. and_least e.valid (here i).valid e.entry)) j;
           }
       by_case false h has = there
 
-module _ (s s' : Summary) (es : List StandingEntry) (e : StandingEntry) (k : Vec ℕ) (v : Found) where
-  pub sums_more : SumsUp s es → k.items ≡ e.definition → v.any ≡ and_least true (found_in (get bytes_cmp s.texts k)).any e.entry → v.valid ≡ and_least e.valid (found_in (get bytes_cmp s.texts k)).valid e.entry
-      → s'.least ≡ and_least true s.least e.entry → ((q : Vec ℕ) → get bytes_cmp s'.texts q ≡ cond (is_eq (bytes_cmp k q)) (Some v) (get bytes_cmp s.texts q))
+module _ (s s' : Summary) (es : List StandingEntry) (e : StandingEntry) (k : IndexedText) (v : Found) where
+  pub sums_more : SumsUp s es → k.definition ≡ e.definition → v.any ≡ and_least true (found_in (get bytes_cmp s.texts k)).any e.entry → v.valid ≡ and_least e.valid (found_in (get bytes_cmp s.texts k)).valid e.entry
+      → s'.least ≡ and_least true s.least e.entry → ((q : IndexedText) → get bytes_cmp s'.texts q ≡ cond (is_eq (bytes_cmp k q)) (Some v) (get bytes_cmp s.texts q))
       → SumsUp s' (es ++ e ∷ [])
   sums_more sums is any valid l up = record {
     least_of_all = l ∙ (λ j. and_least true (sums.least_of_all j) e.entry) ∙ sym (least_push any_entry es e);

@@ -1,5 +1,5 @@
 -- Readings that an import takes one after another.
-use Rattle.std.proofs.Common.{◌≡◌, ℕ, ◌+◌, ◌≤◌, Bool, false, not, ◌&&◌, ◌||◌, List, [], ◌∷◌, ◌++◌, append_assoc, append-nil, length, length-append, add-zero, refl, sym, ap, ◌∙◌, subst, arith}
+use Rattle.std.proofs.Common.{◌≡◌, ℕ, ◌+◌, ◌≤◌, Bool, false, ◌||◌, List, [], ◌∷◌, ◌++◌, append_assoc, append-nil, length, length-append, add-zero, refl, sym, ap, ◌∙◌, subst, arith}
 use Rattle.std.specs.List.{list_any}
 use Rattle.std.proofs.lemmas.List.{map-append}
 use Rattle.std.proofs.lemmas.List.Folds.{list_any-append}
@@ -16,7 +16,7 @@ use Rattle.reg_import.specs.declared.import.Importing.{Importing}
 use Rattle.reg_import.specs.Known.{At, AreStanding, by_key}
 use Rattle.reg_import.specs.Index.{Indexes}
 use Rattle.reg_import.specs.Imports.{told_at, bodies_at, then_at, Step, imports, tolds, effects, is_refused, is_spent}
-use Rattle.reg_import.specs.Plans.{AreSteps, StepsOn, Lists, Plans, PassesAll, begins_unread, MayRunOut}
+use Rattle.reg_import.specs.Plans.{AreSteps, StepsOn, Plans, PassesAll, MayRunOut}
 use Rattle.reg_import.specs.Taking.{HasTaken}
 use Rattle.reg_import.proofs.NumberedLemmas.{numbered_append, length_numbered}
 use Rattle.reg_import.proofs.AtOnceLemmas.{not_first}

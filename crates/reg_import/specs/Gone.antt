@@ -4,15 +4,15 @@ use Rattle.std.specs.BTreeSet.{BTreeSet, contains}
 use Rattle.crs_search.specs.Parts.{IsAlike}
 use Rattle.reg_op.specs.Rows.{Row}
 use Rattle.reg_report.specs.Conflicts.{KeyBytes, HasKey}
-use Rattle.reg_import.specs.declared.index.OwnedKeyText.{OwnedKeyText}
+use Rattle.reg_import.specs.declared.indexed_key.IndexedKey.{IndexedKey}
 use Rattle.reg_import.specs.Index.{key_bytes, text_cmp}
 use Rattle.reg_import.specs.Known.{stands}
 
 -- ---- sets of keys
 
 -- the set has exactly these keys
-abbrev pub HasKeys : BTreeSet OwnedKeyText → List KeyBytes → Type 0
-HasKeys set keys = (q : OwnedKeyText) → IsTrue (contains text_cmp set q) ↔ Contains keys (key_bytes q)
+abbrev pub HasKeys : BTreeSet IndexedKey → List KeyBytes → Type 0
+HasKeys set keys = (q : IndexedKey) → IsTrue (contains text_cmp set q) ↔ Contains keys (key_bytes q)
 
 -- ---- entries
 

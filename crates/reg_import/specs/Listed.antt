@@ -4,7 +4,7 @@ use Rattle.std.specs.Borrow.{Bor}
 use Rattle.std.specs.BTreeSet.{BTreeSet}
 use Rattle.std.specs.String.{string_bytes}
 use Rattle.csv.specs.Writing.{row_text, default_writer}
-use Rattle.reg_import.specs.declared.index.OwnedKeyText.{OwnedKeyText}
+use Rattle.reg_import.specs.declared.indexed_key.IndexedKey.{IndexedKey}
 use Rattle.reg_import.specs.declared.listing.Listing.{Listing}
 use Rattle.reg_import.specs.declared.listing.ImportLines.{ImportLines}
 use Rattle.reg_import.specs.declared.reading.FileText.{FileText}
@@ -16,7 +16,7 @@ use Rattle.reg_import.specs.Lines.{lines_of, is_shown, import_header, IsImportLi
 use Rattle.reg_import.specs.Listing.{PacksLines}
 
 -- the set has the keys of these readings, if entries are listed that no text has
-abbrev pub HasKeysOf : Option (Bor (List ℕ)) → List ReadText → BTreeSet OwnedKeyText → Type 0
+abbrev pub HasKeysOf : Option (Bor (List ℕ)) → List ReadText → BTreeSet IndexedKey → Type 0
 HasKeysOf None rs keys = Unit {0}
 HasKeysOf (Some authority) rs keys = HasKeys keys (keys_in rs)
 

@@ -16,7 +16,7 @@ use Rattle.reg_import.specs.declared.action.TextAction.{TextAction}
 use Rattle.reg_import.specs.declared.action.TextAction.TheVariants as told
 use Rattle.reg_import.specs.declared.import.ImportRefusal.{ImportRefusal}
 use Rattle.reg_import.specs.declared.import.ImportRefusal.TheVariants as refusal
-use Rattle.reg_import.specs.declared.index.OwnedKeyText.{OwnedKeyText}
+use Rattle.reg_import.specs.declared.indexed_key.IndexedKey.{IndexedKey}
 use Rattle.reg_import.specs.declared.entries_of_key.EntriesOfKey.{EntriesOfKey}
 use Rattle.reg_import.specs.Known.{At, AreStanding, by_key}
 use Rattle.reg_import.specs.Index.{Indexes}
@@ -41,7 +41,7 @@ Plans x replica note differs readings ts ops =
     (steps : List Step) × AreSteps x replica differs readings steps × Lists replica (greatest replica x.seen + 1) note steps ts ops
 
 -- one more text: this is its action, its operations are appended, and the index has the entries of its key afterwards
-pub record StepsOn (differs : Differs) (replica : List ℕ) (count : ℕ) (note : List ℕ) (text : ReadText) (at : At) (m : BTreeMap OwnedKeyText EntriesOfKey) (old new : List Op) (t : TextAction) : Type 0 where
+pub record StepsOn (differs : Differs) (replica : List ℕ) (count : ℕ) (note : List ℕ) (text : ReadText) (at : At) (m : BTreeMap IndexedKey EntriesOfKey) (old new : List Op) (t : TextAction) : Type 0 where
   pub told : t ≡ told_at differs replica count at text
   pub made : new ≡ old ++ numbered replica count note (bodies_at t at text)
   pub index : Indexes m (then_at t at text)

@@ -4,8 +4,8 @@ use Rattle.std.specs.Option.{unwrap_or}
 use Rattle.std.specs.BTreeMap.{get}
 use Rattle.std.specs.Ordering.{nat_cmp}
 use Rattle.std.specs.Cmp.Lexicographic.{slice_cmp}
-use Rattle.std.specs.Global.{Vec}
 use Rattle.std.specs.declared.cmp.Ordering.{Ordering}
+use Rattle.reg_import.specs.declared.indexed_text.IndexedText.{IndexedText}
 use Rattle.reg_import.specs.declared.standing_entry.StandingEntry.{StandingEntry}
 use Rattle.reg_import.specs.declared.summary.Found.{Found}
 use Rattle.reg_import.specs.declared.summary.Summary.{Summary}
@@ -20,8 +20,8 @@ use Rattle.reg_import.specs.Imports.{least, has_text, has_text_and_is_valid, any
 abbrev pub found : List ℕ → List StandingEntry → Found
 found text es = record { any = least (has_text text) es; valid = least (has_text_and_is_valid text) es }
 
-abbrev pub bytes_cmp : Vec ℕ → Vec ℕ → Ordering
-bytes_cmp a b = slice_cmp nat_cmp a.items b.items
+abbrev pub bytes_cmp : IndexedText → IndexedText → Ordering
+bytes_cmp a b = slice_cmp nat_cmp a.definition b.definition
 
 abbrev pub found_in : Option Found → Found
 found_in None = record { any = None; valid = None }
@@ -30,7 +30,7 @@ found_in (Some f) = f
 -- it is the summary of these entries: the least of all, and the least entries of each text
 pub record SumsUp (s : Summary) (es : List StandingEntry) : Type 0 where
   pub least_of_all : s.least ≡ least any_entry es
-  pub each : (text : Vec ℕ) → found_in (get bytes_cmp s.texts text) ≡ found text.items es
+  pub each : (text : IndexedText) → found_in (get bytes_cmp s.texts text) ≡ found text.definition es
 
 -- the action for a text with these least entries, if this entry is the least of its key
 abbrev pub told_by : Found → Option Id → Differs → Id → OfKey → TextAction

@@ -1,6 +1,6 @@
 //! The action for a text, given the entries of its key.
 
-ghost use Rattle.std.specs.Prelude.{◌≡◌, ◌+◌, ◌<◌, ◌≤◌, ◌++◌, ◌∷◌, [], ℕ, Some, IfSome, IfNone, OnOk};
+ghost use Rattle.std.specs.Prelude.{◌≡◌, ◌+◌, ◌<◌, ◌≤◌, ◌++◌, ◌∷◌, [], Some, IfSome, IfNone, OnOk};
 ghost use Rattle.reg_state.specs.Runs.{id_at};
 ghost use Rattle.reg_import.specs.Imports.{least, any_entry, told_of, told_of_new, unless_spent, is_refused, is_spent};
 ghost use Rattle.reg_import.specs.Index.{entries_seen};
@@ -8,6 +8,7 @@ ghost use Rattle.reg_import.specs.Lines.{is_known};
 ghost use Rattle.reg_import.specs.Summary.{told_by};
 
 use crate::entries_of_key::EntriesOfKey;
+use crate::indexed_text::IndexedText;
 use crate::summary::Found;
 use reg_op::OpId;
 use std::alloc::AllocError;
@@ -185,10 +186,10 @@ pub fn told_of(
     replica: Uuid,
     count: u64,
     entries: &EntriesOfKey,
-    text: &Vec<u8>,
+    text: &IndexedText,
 ) -> TextAction
     requires { 0 < count }
-    ensures { result ≡ told_of differs (id_at replica count) (entries_seen entries.now) text.now.items }
+    ensures { result ≡ told_of differs (id_at replica count) (entries_seen entries.now) text.now.definition }
 {
     let found = entries.find(text);
     told_found(differs, replica, count, entries, found)

@@ -6,6 +6,7 @@ ghost use Rattle.reg_import.specs.declared.standing_entry.StandingEntry.{Standin
 ghost use Rattle.reg_import.specs.Imports.{least, any_entry};
 ghost use Rattle.reg_import.specs.Summary.{found, SumsUp};
 
+use crate::indexed_text::IndexedText;
 use crate::least::{least_of_all, least_same, least_valid};
 use crate::standing_entry::StandingEntry;
 use crate::summary::{Found, Summary};
@@ -138,14 +139,14 @@ impl EntriesOfKey {
     }
 
     /// The least entry with the text, and the least valid one.
-    pub fn find(&self, text: &Vec<u8>) -> Found
-        ensures { result ≡ found text.now.items self.now.known.items }
+    pub fn find(&self, text: &IndexedText) -> Found
+        ensures { result ≡ found text.now.definition self.now.known.items }
     {
         match &self.summary {
             Some(summary) => summary.found(text),
             None => Found {
-                any: least_same(&self.known, text),
-                valid: least_valid(&self.known, text),
+                any: least_same(&self.known, text.definition.as_bytes()),
+                valid: least_valid(&self.known, text.definition.as_bytes()),
             },
         }
     }

@@ -7,7 +7,7 @@ ghost use Rattle.reg_report.specs.Seen.{row_seen};
 ghost use Rattle.reg_import.specs.Readings.{keys_in};
 ghost use Rattle.reg_import.specs.Gone.{HasKeys, IsGone, AreGone};
 
-use crate::index::{OwnedKeyText, text_of};
+use crate::indexed_key::IndexedKey;
 use crate::reading::ReadText;
 use crate::standing_entry::stands;
 use crs_search::is_alike;
@@ -19,14 +19,14 @@ use std::collections::BTreeSet;
 /// Adds the key of a text, if it was read.
 pub fn put_key(
     alloc: Global,
-    keys: &mut BTreeSet<OwnedKeyText>,
+    keys: &mut BTreeSet<IndexedKey>,
     reading: &ReadText,
 ) -> Result<(), AllocError>
     ensures { (before : List KeyBytes) → HasKeys keys.old before → OnOk result (HasKeys keys.new (before ++ keys_in (reading.now ∷ []))) }
 {
     match reading {
         ReadText::Defined { definition: _, key } => {
-            let key = text_of(alloc, key.get())?;
+            let key = IndexedKey::of(alloc, key)?;
             let _ = keys.insert(key)?;
             Ok(())
         }
@@ -38,7 +38,7 @@ pub fn put_key(
 fn is_gone(
     alloc: Global,
     authority: &[u8],
-    keys: &BTreeSet<OwnedKeyText>,
+    keys: &BTreeSet<IndexedKey>,
     row: &Row,
 ) -> Result<bool, AllocError>
     ensures { (texts : List KeyBytes) → HasKeys keys.now texts → IfOk result (λ gone. IsTrue gone ↔ IsGone authority.now texts (row_seen row.now)) }
@@ -46,12 +46,11 @@ fn is_gone(
     if !stands(row) {
         return Ok(false);
     }
-    let key = row.definition.key();
-    if !is_alike(authority, key.authority.as_bytes()) {
+    let key = row.definition.shared_key(alloc)?;
+    if !is_alike(authority, key.get().authority.as_bytes()) {
         return Ok(false);
     }
-    let text = text_of(alloc, key)?;
-    Ok(!keys.contains(&text))
+    Ok(!keys.contains(&IndexedKey { key }))
 }
 
 // Appends the row, if it is gone.
@@ -67,7 +66,7 @@ fn push_where(wanted: bool, rows: &mut Vec<Row>, row: Row) -> Result<(), AllocEr
 fn keep_gone(
     alloc: Global,
     authority: &[u8],
-    keys: &BTreeSet<OwnedKeyText>,
+    keys: &BTreeSet<IndexedKey>,
     rows: Vec<Row>,
 ) -> Result<Vec<Row>, AllocError>
     ensures { (texts : List KeyBytes) → HasKeys keys.now texts → IfOk result (λ gone. AreGone authority.now texts (map row_seen rows.items) (map row_seen gone.items)) }
@@ -86,7 +85,7 @@ pub fn gone(
     alloc: Global,
     register: &Register,
     authority: &[u8],
-    keys: &BTreeSet<OwnedKeyText>,
+    keys: &BTreeSet<IndexedKey>,
 ) -> Result<Vec<Row>, AllocError>
     ensures { (texts : List KeyBytes) → HasKeys keys.now texts → IfOk result (λ made. AreGone authority.now texts (rows register.now.ops) (map row_seen made.items)) }
 {

@@ -111,7 +111,8 @@ impl Importing {
             made,
             is_spent: _,
         } = self;
-        let ImportState { index: _, ops } = made;
+        let ImportState { index, ops } = made;
+        drop(index);
         let joined = join_ops(alloc, register, replica, ops)?;
         Ok(joined)
     }

@@ -1,42 +1,24 @@
 //! The entries that are not retired, by key.
 
 ghost use Rattle.std.specs.Prelude.{◌≡◌, List, map, IfOk, OnOk};
-ghost use Rattle.reg_report.specs.Conflicts.{bytes_of};
 ghost use Rattle.reg_report.specs.Seen.{row_seen};
 ghost use Rattle.reg_import.specs.declared.standing_entry.StandingEntry.{StandingEntry};
 ghost use Rattle.reg_import.specs.Known.{At, AreKnown, AreStanding, with_key, by_key};
 ghost use Rattle.reg_import.specs.Index.{key_bytes, entries_seen, nothing_there, with_entry, Indexes};
 
 use crate::entries_of_key::EntriesOfKey;
+use crate::indexed_key::IndexedKey;
 use crate::standing_entry::{StandingEntry, known_of, standing};
-use crs_value::Key;
 use reg_report::Row;
 use reg_state::Register;
 use std::alloc::{AllocError, Global};
 use std::collections::BTreeMap;
 
-/// The bytes of a key's authority and code, which order keys.
-#[derive(PartialEq, Eq, PartialOrd, Ord, Drop)]
-pub struct OwnedKeyText {
-    pub authority: Vec<u8>,
-    pub code: Vec<u8>,
-}
-
-/// The bytes of a key.
-pub fn text_of(alloc: Global, key: &Key) -> Result<OwnedKeyText, AllocError>
-    ensures { IfOk result (λ text. key_bytes text ≡ bytes_of key.now) }
-{
-    Ok(OwnedKeyText {
-        authority: Vec::from_slice(alloc, key.authority.as_bytes())?,
-        code: Vec::from_slice(alloc, key.code.as_bytes())?,
-    })
-}
-
 /// Removes the entries of a key.
 pub fn take(
     alloc: Global,
-    index: &mut BTreeMap<OwnedKeyText, EntriesOfKey>,
-    key: &OwnedKeyText,
+    index: &mut BTreeMap<IndexedKey, EntriesOfKey>,
+    key: &IndexedKey,
 ) -> EntriesOfKey
     ensures found { (at : At) → Indexes index.old at → entries_seen result ≡ at (key_bytes key.now) }
     ensures rest { (at : At) → Indexes index.old at → Indexes index.new (with_key (key_bytes key.now) nothing_there at) }
@@ -49,8 +31,8 @@ pub fn take(
 
 /// Inserts the entries of a key.
 pub fn put(
-    index: &mut BTreeMap<OwnedKeyText, EntriesOfKey>,
-    key: OwnedKeyText,
+    index: &mut BTreeMap<IndexedKey, EntriesOfKey>,
+    key: IndexedKey,
     entries: EntriesOfKey,
 ) -> Result<(), AllocError>
     ensures { OnOk result ((at : At) → Indexes index.old at → Indexes index.new (with_key (key_bytes key) (entries_seen entries) at)) }
@@ -62,12 +44,12 @@ pub fn put(
 // Inserts an entry.
 fn put_known(
     alloc: Global,
-    index: &mut BTreeMap<OwnedKeyText, EntriesOfKey>,
+    index: &mut BTreeMap<IndexedKey, EntriesOfKey>,
     entry: StandingEntry,
 ) -> Result<(), AllocError>
     ensures { OnOk result ((at : At) → Indexes index.old at → Indexes index.new (with_entry entry at)) }
 {
-    let key = text_of(alloc, &entry.key)?;
+    let key = IndexedKey::of(alloc, &entry.key)?;
     let before = take(alloc, index, &key);
     let ours = before.ours;
     let entries = before.with(alloc, entry, ours)?;
@@ -79,7 +61,7 @@ fn put_known(
 fn index_of_rows(
     alloc: Global,
     rows: &[Row],
-) -> Result<BTreeMap<OwnedKeyText, EntriesOfKey>, AllocError>
+) -> Result<BTreeMap<IndexedKey, EntriesOfKey>, AllocError>
     ensures { IfOk result (λ index. (es : List StandingEntry) × AreKnown (map row_seen rows.now) es × Indexes index (by_key es)) }
 {
     let mut index = BTreeMap::new(alloc);
@@ -96,7 +78,7 @@ fn index_of_rows(
 pub fn index_of(
     alloc: Global,
     register: &Register,
-) -> Result<BTreeMap<OwnedKeyText, EntriesOfKey>, AllocError>
+) -> Result<BTreeMap<IndexedKey, EntriesOfKey>, AllocError>
     ensures { IfOk result (λ index. (es : List StandingEntry) × AreStanding register.now.ops es × Indexes index (by_key es)) }
 {
     let rows = standing(alloc, register)?;

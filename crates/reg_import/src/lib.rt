@@ -7,6 +7,8 @@ mod gone;
 mod import;
 mod importing;
 mod index;
+mod indexed_key;
+mod indexed_text;
 pub mod laws;
 mod least;
 mod lines;

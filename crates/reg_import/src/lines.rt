@@ -3,8 +3,8 @@
 ghost use Rattle.std.specs.Prelude.{◌≡◌, ◌++◌, [], ◌∷◌, ℕ, List, codes, decimal, map, IfOk, OnOk};
 ghost use Rattle.std.specs.String.{string_bytes};
 ghost use Rattle.reg_op.specs.Text.{printed};
-ghost use Rattle.reg_report.specs.Lines.{IsSheet, IsReady, WritesRow};
-ghost use Rattle.reg_import.specs.Lines.{Line, lines_of, action_word, entry_text, fault_words, problem_words, problem_text, fault_text, name_at, import_header, line_fields, IsImportLine};
+ghost use Rattle.reg_report.specs.Lines.{IsReady, WritesRow};
+ghost use Rattle.reg_import.specs.Lines.{action_word, entry_text, fault_words, problem_words, problem_text, fault_text, name_at, import_header, line_fields, IsImportLine};
 
 use crate::action::{Problem, TextAction};
 use crate::reading::{FileText, ReadText};

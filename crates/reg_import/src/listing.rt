@@ -16,7 +16,7 @@ ghost use Rattle.reg_import.specs.Listed.{HasKeysOf, HasListed};
 
 use crate::action::{TextAction, push_action};
 use crate::gone::{gone, put_key};
-use crate::index::OwnedKeyText;
+use crate::indexed_key::IndexedKey;
 use crate::lines::{write_header, write_line};
 use crate::reading::{FileText, ReadText};
 use byte_packed::PackedRows;
@@ -90,7 +90,7 @@ fn write_texts(
 fn note_key(
     alloc: Global,
     listing: &Listing<'_>,
-    keys: &mut BTreeSet<OwnedKeyText>,
+    keys: &mut BTreeSet<IndexedKey>,
     reading: &ReadText,
 ) -> Result<(), AllocError>
     ensures { (rs : List ReadText) → HasKeysOf listing.now.gone rs keys.old → OnOk result (HasKeysOf listing.now.gone (rs ++ reading.now ∷ []) keys.new) }
@@ -109,7 +109,7 @@ fn gone_rows(
     alloc: Global,
     listing: &Listing<'_>,
     register: &Register,
-    keys: &BTreeSet<OwnedKeyText>,
+    keys: &BTreeSet<IndexedKey>,
 ) -> Result<Vec<Row>, AllocError>
     ensures { (rs : List ReadText) → HasKeysOf listing.now.gone rs keys.now → IfOk result (λ made. AreGoneOf listing.now.gone rs (rows register.now.ops) (map row_seen made.items)) }
 {
@@ -238,7 +238,7 @@ pub struct ImportLines {
     packed: Box<PackedRows>,
     texts: Vec<FileText>,
     told: Vec<TextAction>,
-    keys: BTreeSet<OwnedKeyText>,
+    keys: BTreeSet<IndexedKey>,
 }
 
 // Boxes packed lines.

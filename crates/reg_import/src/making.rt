@@ -1,14 +1,12 @@
 //! The operations of a command, and the register after them.
 
-ghost use Rattle.std.specs.Prelude.{◌≡◌, ◌+◌, ◌<◌, ◌≤◌, ◌++◌, [], ◌∷◌, map, length, None, Ok, OnOk, IfOk};
+ghost use Rattle.std.specs.Prelude.{◌≡◌, ◌+◌, ◌<◌, ◌≤◌, ◌++◌, [], ◌∷◌, length, None, Ok, OnOk, IfOk};
 ghost use Rattle.reg_op.specs.Set as set;
-ghost use Rattle.reg_op.specs.Lists.{ById};
-ghost use Rattle.reg_op.specs.Operations.{Op as Operation, op_cmp, IsOfItself};
+ghost use Rattle.reg_op.specs.Operations.{op_cmp, IsOfItself};
 ghost use Rattle.reg_op.specs.declared.operation.OpBody.TheVariants as body;
 ghost use Rattle.reg_op.specs.Contents.{state, joined};
-ghost use Rattle.reg_state.specs.Runs.{IsRun, ids_of_run};
 ghost use Rattle.reg_state.specs.Tables.{first_dropped};
-ghost use Rattle.reg_office.specs.Making.{greatest, numbered, objections};
+ghost use Rattle.reg_office.specs.Making.{greatest, numbered};
 ghost use Rattle.reg_import.specs.Imports.{bodies_of};
 ghost use Rattle.reg_import.specs.Plans.{retired, AreNumbered};
 

@@ -8,17 +8,18 @@ ghost use Rattle.reg_import.specs.Plans.{StepsOn};
 
 use crate::action::{Differs, Problem, TextAction, told_of};
 use crate::entries_of_key::EntriesOfKey;
-use crate::index::{OwnedKeyText, put, take, text_of};
+use crate::index::{put, take};
+use crate::indexed_key::IndexedKey;
+use crate::indexed_text::IndexedText;
 use crate::making::{count_of, push_ops};
 use crate::reading::ReadText;
 use crate::standing_entry::StandingEntry;
 use crs_part::TryClone;
-use crs_value::Key;
 use reg_op::{Note, Op, OpId};
 use std::alloc::{AllocError, Global};
 use std::collections::BTreeMap;
 use uuid::Uuid;
-use wkt_crs::Definition;
+use wkt_crs::{Definition, SharedKey};
 
 /// The options that all texts of an import share: the conflict mode, and the replica, the first number and the note of
 /// the operations.
@@ -33,7 +34,7 @@ pub struct Rules<'a> {
 /// The state of an import: the entries of each key, and the operations so far.
 #[derive(Drop)]
 pub struct ImportState {
-    pub index: BTreeMap<OwnedKeyText, EntriesOfKey>,
+    pub index: BTreeMap<IndexedKey, EntriesOfKey>,
     pub ops: Vec<Op>,
 }
 
@@ -42,7 +43,7 @@ fn with_entered(
     alloc: Global,
     entries: EntriesOfKey,
     entry: OpId,
-    key: &Key,
+    key: &SharedKey,
     definition: &Definition,
 ) -> Result<EntriesOfKey, AllocError>
     ensures { IfOk result (λ b. entries_seen b ≡ record { known = entries.known.items ++ entered entry key.now definition.now ∷ []; ours = true }) }
@@ -63,7 +64,7 @@ fn with_entered(
 fn then_of(
     alloc: Global,
     told: &TextAction,
-    key: &Key,
+    key: &SharedKey,
     definition: &Definition,
     entries: EntriesOfKey,
 ) -> Result<EntriesOfKey, AllocError>
@@ -94,19 +95,13 @@ fn count_after(rules: &Rules<'_>, made: &ImportState) -> u64
     rules.first + count_of(&made.ops) as u64
 }
 
-fn spelled(alloc: Global, definition: &Definition) -> Result<Vec<u8>, AllocError>
-    ensures { IfOk result (λ text. text.items ≡ definition.now) }
-{
-    Vec::from_slice(alloc, definition.as_bytes())
-}
-
 // Imports a text that is a definition.
 fn step_defined(
     alloc: Global,
     rules: &Rules<'_>,
     made: &mut ImportState,
     definition: &Definition,
-    key: &Key,
+    key: &SharedKey,
 ) -> Result<TextAction, AllocError>
     requires positive { 0 < rules.now.first }
     requires fits { rules.now.first + length made.old.ops.items ≤ 4294967296 }
@@ -115,11 +110,11 @@ fn step_defined(
     ensures fits { OnOk result (rules.now.first + length made.new.ops.items ≤ 4294967296) }
 {
     let count = count_after(rules, made);
-    let text = text_of(alloc, key)?;
-    let entries = take(alloc, &mut made.index, &text);
+    let indexed = IndexedKey::of(alloc, key)?;
+    let entries = take(alloc, &mut made.index, &indexed);
     let replica = rules.replica;
-    let spelled = spelled(alloc, definition)?;
-    let told = told_of(rules.differs, replica, count, &entries, &spelled);
+    let text = IndexedText::of(alloc, definition)?;
+    let told = told_of(rules.differs, replica, count, &entries, &text);
     push_ops(
         alloc,
         &mut made.ops,
@@ -131,7 +126,7 @@ fn step_defined(
         &entries.known,
     )?;
     let after = then_of(alloc, &told, key, definition, entries)?;
-    put(&mut made.index, text, after)?;
+    put(&mut made.index, indexed, after)?;
     Ok(told)
 }
 
@@ -151,7 +146,7 @@ pub fn step(
     match reading {
         ReadText::Unread(fault) => Ok(TextAction::Refused(Problem::Unread(*fault))),
         ReadText::Defined { definition, key } => {
-            let told = step_defined(alloc, rules, made, definition, key.get())?;
+            let told = step_defined(alloc, rules, made, definition, key)?;
             Ok(told)
         }
     }

@@ -1,14 +1,11 @@
 //! Readings of texts.
 
 ghost use Rattle.std.specs.Prelude.{◌≡◌, ◌+◌, ◌^◌, ◌≤◌, IfOk, IfSome, IfNone};
-ghost use Rattle.wkt_crs.specs.Definition.{IsKeyIn};
 ghost use Rattle.reg_import.specs.Readings.{IsReading, is_unread, place_in, quoted_in, IsFileText};
 
 use crate::quoted::shown_quoted;
-use crs_part::{Boxed, TryClone};
-use crs_value::Key;
 use std::alloc::{AllocError, Global};
-use wkt_crs::{Definition, DefinitionFault};
+use wkt_crs::{Definition, DefinitionFault, SharedKey};
 
 /// The reading of a text.
 #[derive(Drop)]
@@ -16,7 +13,7 @@ pub enum ReadText {
     /// A definition, and its key.
     Defined {
         definition: Definition,
-        key: Boxed<Key>,
+        key: SharedKey,
     },
     /// Not a definition, for this reason.
     Unread(DefinitionFault),
@@ -102,22 +99,13 @@ fn quoted_in(alloc: Global, text: &[u8], reading: &ReadText) -> Result<Vec<u8>, 
     }
 }
 
-// The key of a definition.
-fn boxed_key(alloc: Global, definition: &Definition) -> Result<Boxed<Key>, AllocError>
-    ensures { IfOk result (λ key. IsKeyIn key definition.now) }
-{
-    let key = definition.key().try_clone(alloc)?;
-    let boxed = Boxed::new(alloc, key)?;
-    Ok(boxed)
-}
-
 // Reads a text.
 fn read_text(alloc: Global, text: &[u8]) -> Result<ReadText, AllocError>
     ensures { IfOk result (IsReading text.now) }
 {
     match Definition::from_text(alloc, text) {
         Ok(definition) => {
-            let key = boxed_key(alloc, &definition)?;
+            let key = definition.shared_key(alloc)?;
             Ok(ReadText::Defined { definition, key })
         }
         Err(DefinitionFault::Memory) => Err(AllocError),

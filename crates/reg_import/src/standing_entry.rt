@@ -5,19 +5,17 @@ ghost use Rattle.reg_op.specs.Rows.{rows};
 ghost use Rattle.reg_report.specs.Seen.{row_seen};
 ghost use Rattle.reg_import.specs.Known.{is_valid, IsKnown, stands};
 
-use crs_part::TryClone;
-use crs_value::Key;
 use reg_op::{OpId, Status};
 use reg_report::{Row, rows};
 use reg_state::Register;
 use std::alloc::{AllocError, Global};
-use wkt_crs::Definition;
+use wkt_crs::{Definition, SharedKey};
 
 /// An entry that is not retired: its text, its key, and whether it is valid.
 #[derive(Drop)]
 pub struct StandingEntry {
     pub entry: OpId,
-    pub key: Key,
+    pub key: SharedKey,
     pub definition: Definition,
     pub valid: bool,
 }
@@ -58,7 +56,7 @@ fn is_valid(status: Status) -> bool
 pub fn known_of(alloc: Global, row: &Row) -> Result<StandingEntry, AllocError>
     ensures { IfOk result (IsKnown (row_seen row.now)) }
 {
-    let key = row.definition.key().try_clone(alloc)?;
+    let key = row.definition.shared_key(alloc)?;
     let definition = row.definition.try_clone(alloc)?;
     Ok(StandingEntry {
         entry: row.entry,

@@ -6,6 +6,7 @@ ghost use Rattle.std.specs.BTreeMap.{get};
 ghost use Rattle.reg_import.specs.Imports.{and_least};
 ghost use Rattle.reg_import.specs.Summary.{found, found_in, bytes_cmp, SumsUp};
 
+use crate::indexed_text::IndexedText;
 use crate::standing_entry::StandingEntry;
 use reg_op::OpId;
 use std::alloc::{AllocError, Global};
@@ -22,7 +23,7 @@ pub struct Found {
 #[derive(Drop)]
 pub struct Summary {
     pub least: Option<OpId>,
-    pub texts: BTreeMap<Vec<u8>, Found>,
+    pub texts: BTreeMap<IndexedText, Found>,
 }
 
 // The least id of the entries that pass, after one more entry.
@@ -52,7 +53,7 @@ fn and_found(found: Found, entry: &StandingEntry) -> Found
     }
 }
 
-fn found_at(texts: &BTreeMap<Vec<u8>, Found>, text: &Vec<u8>) -> Found
+fn found_at(texts: &BTreeMap<IndexedText, Found>, text: &IndexedText) -> Found
     ensures { result ≡ found_in (get bytes_cmp texts.now text.now) }
 {
     match texts.get(text) {
@@ -62,12 +63,6 @@ fn found_at(texts: &BTreeMap<Vec<u8>, Found>, text: &Vec<u8>) -> Found
             valid: None,
         },
     }
-}
-
-fn text_of(alloc: Global, text: &[u8]) -> Result<Vec<u8>, AllocError>
-    ensures { IfOk result (λ copy. copy.items ≡ text.now) }
-{
-    Vec::from_slice(alloc, text)
 }
 
 impl Summary {
@@ -98,7 +93,7 @@ impl Summary {
     pub fn add(&mut self, alloc: Global, entry: &StandingEntry) -> Result<(), AllocError>
         ensures { OnOk result ((es : List StandingEntry) → SumsUp self.old es → SumsUp self.new (es ++ entry.now ∷ [])) }
     {
-        let text = text_of(alloc, entry.definition.as_bytes())?;
+        let text = IndexedText::of(alloc, &entry.definition)?;
         let found = and_found(found_at(&self.texts, &text), entry);
         let _ = self.texts.insert(text, found)?;
         self.least = and_least(true, self.least, entry.entry);
@@ -106,8 +101,8 @@ impl Summary {
     }
 
     /// The least entries of the text.
-    pub fn found(&self, text: &Vec<u8>) -> Found
-        ensures { (es : List StandingEntry) → SumsUp self.now es → result ≡ found text.now.items es }
+    pub fn found(&self, text: &IndexedText) -> Found
+        ensures { (es : List StandingEntry) → SumsUp self.now es → result ≡ found text.now.definition es }
     {
         found_at(&self.texts, text)
     }

@@ -66,6 +66,17 @@ fn take(alloc: Global, by_key: &mut BTreeMap<Spelling, Vec<Row>>, key: &Spelling
     }
 }
 
+// Most keys have one entry, so the first row takes room for itself alone.
+fn push_row(rows: &mut Vec<Row>, row: Row) -> Result<(), AllocError>
+    ensures { OnOk result (map row_seen rows.new.items ≡ map row_seen rows.old.items ++ row_seen row ∷ []) }
+{
+    if rows.is_empty() {
+        rows.reserve_exact(1)?;
+    }
+    rows.push(row)?;
+    Ok(())
+}
+
 // Puts a row after those of its key.
 fn put_row(
     alloc: Global,
@@ -76,7 +87,7 @@ fn put_row(
 {
     let spelling = spelling_of_row(alloc, &row)?;
     let mut rows = take(alloc, by_key, &spelling);
-    rows.push(row)?;
+    push_row(&mut rows, row)?;
     let _ = by_key.insert(spelling, rows)?;
     Ok(())
 }

@@ -24,10 +24,7 @@ described_here rules s o i d written t there body id note h = record {
   entered = subst (λ (p : Op). set.contains s p ≡ true) (λ j. record { id = (sym (h.id ∙ id)) j; body = body j; note = (sym note) j }) there;
   described = record {
     id = refl;
-    key = h.key;
     keyed = h.keyed;
-    authority = h.authority;
-    code = h.code;
     note = h.note;
     system = h.system;
   };
@@ -41,8 +38,8 @@ alone P t p (suc k) d h = absurd (omega (arith, h))
 
 pub described_total : IsTotalOrder described_cmp
 described_total =
-    then_total (on_total (λ (t : Described). t.authority.items) nat_list_cmp_total)
-    (then_total (on_total (λ (t : Described). t.code.items) code_total) (on_total (λ (t : Described). t.id) id_total))
+    then_total (on_total (λ (t : Described). t.key.authority.bytes) nat_list_cmp_total)
+    (then_total (on_total (λ (t : Described). t.key.code.bytes) code_total) (on_total (λ (t : Described). t.id) id_total))
 
 pub by_described : IsStrictWeakOrder (λ (a b : Bor Described). is_lt (described_cmp a.now b.now))
 by_described = ranks_by described_total (λ (t : Bor Described). t.now)

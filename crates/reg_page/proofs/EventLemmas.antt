@@ -48,7 +48,7 @@ both_sides named one other t u is also shown = rw (is, also) (alone (pair named)
 pub no_pairs : (named : List ℕ → List ℕ) (described : List Described) (entries : List Id) (page : List ℕ) → entries ≡ [] → Appends page page (flat_map (pair named) (pairs_among described entries))
 no_pairs named described entries page none = rw none (nothing page)
 
-pub link_known : (named : List ℕ → List ℕ) (described : List Described) (i : Id) (t : Described) {start end : List ℕ} → Some t ≡ described_at described i → Appends start end (link named (Entered (printed t.id) t.authority.items t.code.items)) → Appends start end (link named (link_to described i))
+pub link_known : (named : List ℕ → List ℕ) (described : List Described) (i : Id) (t : Described) {start end : List ℕ} → Some t ≡ described_at described i → Appends start end (link named (Entered (printed t.id) t.key.authority.bytes t.key.code.bytes)) → Appends start end (link named (link_to described i))
 link_known named described i t is shown = rw (← is) shown
 
 pub link_unknown : (named : List ℕ → List ℕ) (described : List Described) (i : Id) {start end : List ℕ} → None ≡ described_at described i → Appends start end (link named (Awaited (printed i))) → Appends start end (link named (link_to described i))

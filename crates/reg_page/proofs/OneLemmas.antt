@@ -85,14 +85,14 @@ same_of rules s one t u h k e =
     let note : h.note ≡ k.note = ap (λ (o : Op). o.note) op in
     let a = h.described in
     let b = k.described in
-    let key = one_key k.definition a.key b.key (subst (IsKeyIn a.key) definition a.keyed) b.keyed in
+    let key = one_key k.definition t.key u.key (subst (IsKeyIn t.key) definition a.keyed) b.keyed in
     let crs : a.system.crs ≡ b.system.crs = one_value k.definition a.system.crs b.system.crs (subst (λ text. Spells text a.system.crs) definition a.system.spelled.1) b.system.spelled.1 in
     let one_system = a.system.shows in
     let other = b.system.shows in
     record {
       id = e;
-      authority = a.authority ∙ key.0 ∙ sym b.authority;
-      code = a.code ∙ key.1 ∙ sym b.code;
+      authority = key.0;
+      code = key.1;
       name = one_system.name ∙ ap (λ (c : Crs). (name_of c.parts).bytes) crs ∙ sym other.name;
       boxes = one_system.boxes ∙ ap (λ (c : Crs). boxes_in (usages_of c.parts)) crs ∙ sym other.boxes;
       areas = one_system.areas ∙ ap (λ (c : Crs). areas_in (usages_of c.parts)) crs ∙ sym other.areas;
@@ -112,7 +112,7 @@ abbrev rank_cmp : Rank → Rank → Ordering
 rank_cmp a b = ordering_then (slice_cmp nat_cmp a.0 b.0) (ordering_then (code_cmp a.1.0 b.1.0) (id_cmp a.1.1 b.1.1))
 
 abbrev rank : Described → Rank
-rank t = (t.authority.items, (t.code.items, t.id))
+rank t = (t.key.authority.bytes, (t.key.code.bytes, t.id))
 
 rank_total : IsTotalOrder rank_cmp
 rank_total = then_total (on_total (λ (a : Rank). a.0) nat_list_cmp_total) (then_total (on_total (λ (a : Rank). a.1.0) code_total) (on_total (λ (a : Rank). a.1.1) id_total))

@@ -26,8 +26,8 @@ use Rattle.reg_page.proofs.FindLemmas.{same_at}
 -- two descriptions show the same of an entry
 pub record Same (t u : Described) : Type 0 where
   pub id : t.id ≡ u.id
-  pub authority : t.authority.items ≡ u.authority.items
-  pub code : t.code.items ≡ u.code.items
+  pub authority : t.key.authority.bytes ≡ u.key.authority.bytes
+  pub code : t.key.code.bytes ≡ u.key.code.bytes
   pub name : t.system.name.items ≡ u.system.name.items
   pub boxes : map box_seen t.system.boxes.items ≡ map box_seen u.system.boxes.items
   pub areas : map (λ (a : Vec ℕ). a.items) t.system.areas.items ≡ map (λ (a : Vec ℕ). a.items) u.system.areas.items

@@ -33,10 +33,10 @@ module _ (rules : List Rule) (s : Ops) (described : List Described) (os : List O
         definition = h.definition;
         entered = subst (λ note. set.contains s (entering t.id h.definition note) ≡ true) (sym d.note) h.entered;
         prints = refl;
-        key = d.key;
+        key = t.key;
         keyed = d.keyed;
-        authority = d.authority;
-        code = d.code;
+        authority = refl;
+        code = refl;
         crs = d.system.crs;
         spelled = d.system.spelled;
         name = d.system.shows.name;
@@ -79,7 +79,7 @@ rows_sorted f each (t ∷ u ∷ ts) up (suc k) d low h =
 module _ (s : Ops) (described : List Described) (os : List Op) where
   in_order : (ts : List Described) → IsSorted described_cmp ts → (gone : Bool) → IsSorted entry_cmp (rows_of gone s described os ts)
   in_order ts up gone =
-      rows_sorted (entry_of s described os) (λ t u h. first_two (slice_cmp nat_cmp u.authority.items t.authority.items) (code_cmp u.code.items t.code.items) (id_cmp u.id t.id) h) (filter (is_among gone s) ts)
+      rows_sorted (entry_of s described os) (λ t u h. first_two (slice_cmp nat_cmp u.key.authority.bytes t.key.authority.bytes) (code_cmp u.key.code.bytes t.key.code.bytes) (id_cmp u.id t.id) h) (filter (is_among gone s) ts)
       (IsSortedBy-filter (λ (a b : Described). is_lt (described_cmp a b)) (ranks_by described_total (λ (t : Described). t)) (is_among gone s) ts up)
 
 pub all_in_order : (rules : List Rule) (title : List ℕ) (x : Content) (s : shown.Shown) → IsShown rules title x s → IsSorted entry_cmp s.entries × IsSorted entry_cmp s.retired

@@ -16,7 +16,6 @@ use Rattle.reg_op.specs.Ids.{Id, id_cmp}
 use Rattle.reg_op.specs.Operations.{Op, Ops}
 use Rattle.reg_op.specs.Kept.{entering}
 use Rattle.reg_op.specs.Status.{is_enter}
-use Rattle.crs_value.specs.declared.key.Key.{Key}
 use Rattle.reg_page.specs.declared.described.DescribedSystem.{DescribedSystem}
 use Rattle.reg_page.specs.declared.described.Described.{Described}
 use Rattle.crs_sense.specs.declared.rule.Rule.{Rule}
@@ -45,10 +44,7 @@ pub record IsSystemIn (rules : List Rule) (definition : List ℕ) (d : Described
 -- what the page shows of an entry with this definition and note
 pub record DescribesEntry (rules : List Rule) (entry : Id) (definition written : List ℕ) (t : Described) : Type 0 where
   pub id : t.id ≡ entry
-  pub key : Key
-  pub keyed : IsKeyIn key definition
-  pub authority : t.authority.items ≡ key.authority.bytes
-  pub code : t.code.items ≡ key.code.bytes
+  pub keyed : IsKeyIn t.key definition
   pub note : t.note.items ≡ written
   pub system : IsSystemIn rules definition t.system
 
@@ -62,8 +58,8 @@ pub record IsDescribed (rules : List Rule) (s : Ops) (t : Described) : Type 0 wh
 -- by the bytes of the authority, then by the code, and then by the id
 abbrev pub described_cmp : Described → Described → Ordering
 described_cmp a b =
-    ordering_then (slice_cmp nat_cmp a.authority.items b.authority.items)
-    (ordering_then (code_cmp a.code.items b.code.items) (id_cmp a.id b.id))
+    ordering_then (slice_cmp nat_cmp a.key.authority.bytes b.key.authority.bytes)
+    (ordering_then (code_cmp a.key.code.bytes b.key.code.bytes) (id_cmp a.id b.id))
 
 abbrev pub entry_ids : Ops → List Id
 entry_ids s = map (λ (o : Op). o.id) (filter (λ (o : Op). is_enter o.body) (set.items s))

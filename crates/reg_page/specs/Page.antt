@@ -46,7 +46,7 @@ described_at described i = find (λ (t : Described). is_same t.id i) described
 
 abbrev pub link_as : Id → Option Described → shown.Link
 link_as i None = shown.Awaited (printed i)
-link_as i (Some t) = shown.Entered (printed t.id) t.authority.items t.code.items
+link_as i (Some t) = shown.Entered (printed t.id) t.key.authority.bytes t.key.code.bytes
 
 abbrev pub link_to : List Described → Id → shown.Link
 link_to described i = link_as i (described_at described i)
@@ -89,8 +89,8 @@ events_in described e o = events_by described e (printed o.id) o.note o.body
 abbrev pub entry_of : Ops → List Described → List Op → Described → shown.Entry
 entry_of s described os t = record {
   id = printed t.id;
-  authority = t.authority.items;
-  code = t.code.items;
+  authority = t.key.authority.bytes;
+  code = t.key.code.bytes;
   name = t.system.name.items;
   boxes = map box_seen t.system.boxes.items;
   areas = map (λ (a : Vec ℕ). a.items) t.system.areas.items;

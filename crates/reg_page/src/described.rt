@@ -16,7 +16,7 @@ use reg_op::{Op, OpBody, OpId};
 use reg_state::Register;
 use std::alloc::{AllocError, Global};
 use std::cmp::Ordering;
-use wkt_crs::{Definition, write_pretty};
+use wkt_crs::{Definition, SharedKey, write_pretty};
 
 /// What the page shows of a reference system.
 #[derive(Drop)]
@@ -35,8 +35,7 @@ pub struct DescribedSystem {
 #[derive(Drop)]
 pub struct Described {
     pub id: OpId,
-    pub authority: Vec<u8>,
-    pub code: Vec<u8>,
+    pub key: SharedKey,
     pub system: DescribedSystem,
     pub note: Vec<u8>,
 }
@@ -82,14 +81,11 @@ fn describe_entry(
     ensures { IfOk result (DescribesEntry rules.now id definition.now note.now) }
 {
     let system = system_in(alloc, rules, definition)?;
-    let key = definition.key();
-    let authority = Vec::from_slice(alloc, key.authority.as_bytes())?;
-    let code = Vec::from_slice(alloc, key.code.as_bytes())?;
+    let key = definition.shared_key(alloc)?;
     let note = Vec::from_slice(alloc, note)?;
     Ok(Described {
         id,
-        authority,
-        code,
+        key,
         system,
         note,
     })
@@ -120,12 +116,11 @@ fn push_described(
 fn compare(left: &Described, right: &Described) -> Ordering
     ensures { result ≡ described_cmp left.now right.now }
 {
-    left.authority
-        .as_slice()
-        .cmp(right.authority.as_slice())
-        .then(compare_codes(left.code.as_slice(), right.code.as_slice()).then(
-            left.id.cmp(&right.id),
-        ))
+    let (mine, its) = (left.key.get(), right.key.get());
+    mine.authority.as_bytes().cmp(its.authority.as_bytes()).then(compare_codes(
+        mine.code.as_bytes(),
+        its.code.as_bytes(),
+    ).then(left.id.cmp(&right.id)))
 }
 
 /// What the page shows of each entry, by id.

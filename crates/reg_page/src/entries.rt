@@ -258,7 +258,14 @@ pub fn push_entry(
     let mine = acts_on(acts, one.id);
     let id = printed(alloc, one.id)?;
     let read = read_for_id(alloc, names, one.id)?;
-    push_entry_start(page, &id, &one.authority, &one.code, &system.name)?;
+    let key = one.key.get();
+    push_entry_start(
+        page,
+        &id,
+        key.authority.as_bytes(),
+        key.code.as_bytes(),
+        &system.name,
+    )?;
     push_maps(page, &system.boxes)?;
     push_entry_text(page, &system.text)?;
     push_questions(page, &system.questions)?;

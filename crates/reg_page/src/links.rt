@@ -33,10 +33,11 @@ fn push_known(
     names: &[Name],
     one: &Described,
 ) -> Result<(), AllocError>
-    ensures { OnOk result (Appends page.old.items page.new.items (link (named names.now) (Entered (printed one.now.id) one.now.authority.items one.now.code.items))) }
+    ensures { OnOk result (Appends page.old.items page.new.items (link (named names.now) (Entered (printed one.now.id) one.now.key.authority.bytes one.now.key.code.bytes))) }
 {
     let id = printed(alloc, one.id)?;
-    push_link(page, &id, &one.authority, &one.code)?;
+    let key = one.key.get();
+    push_link(page, &id, key.authority.as_bytes(), key.code.as_bytes())?;
     Ok(())
 }
 

@@ -80,9 +80,10 @@ fn push_conflict(
         return Ok(());
     }
     let entries = entries_of(alloc, first, others)?;
+    let key = first.key.get();
     conflicts.push(Conflict {
-        authority: first.key.authority.try_clone(alloc)?,
-        code: first.key.code.try_clone(alloc)?,
+        authority: key.authority.try_clone(alloc)?,
+        code: key.code.try_clone(alloc)?,
         entries: distinct(entries),
     })?;
     Ok(())

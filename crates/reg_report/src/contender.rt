@@ -6,16 +6,15 @@ ghost use Rattle.reg_report.specs.Contenders.{contender_cmp, has_same_key, has_o
 ghost use Rattle.reg_report.specs.Seen.{row_seen};
 
 use crate::row::Row;
-use crs_part::TryClone;
-use crs_value::Key;
 use reg_op::{Definition, OpId, Status};
 use std::alloc::{AllocError, Global};
 use std::cmp::Ordering;
+use wkt_crs::SharedKey;
 
 /// An entry that is not retired.
 #[derive(Drop)]
 pub struct Contender {
-    pub key: Key,
+    pub key: SharedKey,
     pub definition: Definition,
     pub entry: OpId,
 }
@@ -24,7 +23,7 @@ pub struct Contender {
 fn compare(left: &Contender, right: &Contender) -> Ordering
     ensures { result ≡ contender_cmp left.now right.now }
 {
-    let (left, right) = (&left.key, &right.key);
+    let (left, right) = (left.key.get(), right.key.get());
     left.authority
         .as_bytes()
         .cmp(right.authority.as_bytes())
@@ -56,7 +55,7 @@ fn push_contender(
     if row.status == Status::Retired {
         return Ok(());
     }
-    let key = row.definition.key().try_clone(alloc)?;
+    let key = row.definition.shared_key(alloc)?;
     let definition = row.definition.try_clone(alloc)?;
     contenders.push(Contender {
         key,

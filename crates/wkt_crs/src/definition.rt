@@ -15,6 +15,7 @@ ghost use Rattle.wkt_crs.specs.declared.definition.DefinitionFault.TheVariants a
 use crate::block::text_in;
 use crate::fault::{ReadFault, Unspelled};
 use crate::reading::{read_crs, read_spelled};
+use crate::shared_key::SharedKey;
 use crate::writing::write_crs;
 use bytes::Bytes;
 use crs_part::{Many, Text, TryClone};
@@ -83,8 +84,8 @@ impl fmt::Display for DefinitionFault {
 }
 
 #[derive(Drop)]
-struct Body {
-    key: Key,
+pub(crate) struct Body {
+    pub(crate) key: Key,
     name: Text,
     text: Bytes,
     ghost defined: { IsDefinedBy key name text },
@@ -233,6 +234,15 @@ impl Definition {
         ensures { IsKeyIn result.now self.now }
     {
         &self.body.key
+    }
+
+    /// The same key, as a value that shares the memory of the definition.
+    pub fn shared_key(&self, alloc: Global) -> Result<SharedKey, AllocError>
+        ensures { IfOk result (λ key. IsKeyIn key self.now) }
+    {
+        let _ = alloc;
+        let body = self.body.clone()?;
+        Ok(SharedKey { body })
     }
 
     /// A copy that shares the text.

@@ -8,6 +8,7 @@ mod fault;
 pub mod laws;
 mod places;
 mod reading;
+mod shared_key;
 mod source;
 mod writing;
 
@@ -17,6 +18,7 @@ pub use crs_value::{Condition, Crs, Key};
 pub use definition::{Definition, DefinitionFault};
 pub use fault::{ReadFault, Unspelled};
 pub use reading::read_crs;
+pub use shared_key::SharedKey;
 pub use source::{DefineFromFault, ReadFromFault, canonical_text_from, define_from, read_crs_from};
 pub use wkt_grammar::{SlotFault, SlotName};
 pub use wkt_tree::TextFault;

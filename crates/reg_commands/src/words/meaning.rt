@@ -1,7 +1,7 @@
 //! The entries that words mean: those for which they stand in the register on which a command works, or, where that has none of a
 //! word, in the register as it was read.
 
-ghost use Rattle.std.specs.Prelude.{◌≡◌, ◌≢◌, ◌⊎◌, ◌++◌, ◌∷◌, [], List, map, IfOk, OnOk, IfErr};
+ghost use Rattle.std.specs.Prelude.{◌≡◌, ◌≢◌, ◌⊎◌, ◌++◌, ◌∷◌, [], List, map, IfOk, OnOk, IfErr, IfSome};
 ghost use Rattle.reg_op.specs.Ids.{Id};
 ghost use Rattle.reg_op.specs.Rows.{Row as OneRow, rows};
 ghost use Rattle.reg_keys.specs.Index.{IsIndex};
@@ -12,7 +12,9 @@ ghost use Rattle.reg_commands.specs.Keyed.{IsUnnamed};
 
 use crate::words::keyed::fault_of;
 use reg_engine::CliFault;
-use reg_keys::{KeyFault, KeyIndex, entry_in, every_in, index_of_register};
+use reg_keys::{
+    KeyFault, KeyIndex, each_of_words_in, entry_in, every_in, every_of_words_in, index_of_register,
+};
 use reg_op::OpId;
 use reg_state::Register;
 use std::alloc::Global;
@@ -223,6 +225,20 @@ fn each_of(
     Ok(ids)
 }
 
+// The entries that the words mean, if each of them stands for entries in the register on which the command works.
+fn entries_there(alloc: Global, now: &KeyIndex, words: &[&[u8]], newer: &[&[u8]]) -> Option<Entries>
+    requires { (zs : List OneRow) × IsIndex now.now zs }
+    ensures { (xs zs : List OneRow) → IsIndex now.now zs → IfSome result (λ r. MeanBoth xs zs (map (λ w. w.now) words.now) (map (λ w. w.now) newer.now) r.changed.items r.newer.items) }
+{
+    let Ok(changed) = every_of_words_in(alloc, now, words) else {
+        return None;
+    };
+    match each_of_words_in(alloc, now, newer) {
+        Ok(newer) => Some(Entries { changed, newer }),
+        Err(_) => None,
+    }
+}
+
 /// The entries that the words of a command mean, which works on the second register, after the first one was read.
 pub(crate) fn entries_meant(
     alloc: Global,
@@ -234,11 +250,15 @@ pub(crate) fn entries_meant(
     ensures ok { IfOk result (λ r. MeanBoth (rows loaded.now.ops) (rows register.now.ops) (map (λ w. w.now) words.now) (map (λ w. w.now) newer.now) r.changed.items r.newer.items) }
     ensures fault { IfErr result (λ f. (f ≡ CliFault.Memory) ⊎ IsUnnamed (AreMeaningless (rows loaded.now.ops) (rows register.now.ops) (map (λ w. w.now) words.now) (map (λ w. w.now) newer.now)) f) }
 {
-    let was = match index_of_register(alloc, loaded) {
+    let now = match index_of_register(alloc, register) {
         Ok(index) => index,
         Err(_) => return Err(CliFault::Memory),
     };
-    let now = match index_of_register(alloc, register) {
+    // Most words stand for entries there. Then the other register needs no index.
+    if let Some(entries) = entries_there(alloc, &now, words, newer) {
+        return Ok(entries);
+    }
+    let was = match index_of_register(alloc, loaded) {
         Ok(index) => index,
         Err(_) => return Err(CliFault::Memory),
     };

@@ -1,6 +1,6 @@
 //! The bytes of files of texts.
 
-ghost use Rattle.std.specs.Prelude.{[], map, IfOk, IfErr};
+ghost use Rattle.std.specs.Prelude.{map, IfOk, IfErr};
 ghost use Rattle.reg_engine.specs.WholeFile.{Gives};
 ghost use Rattle.reg_desk.specs.ImportFiles.{bytes_of, GiveAll, IsUnreadFile, AreUnread};
 

@@ -1,6 +1,6 @@
 //! Explanations of refused texts.
 
-ghost use Rattle.std.specs.Prelude.{◌≡◌, [], map, IfOk};
+ghost use Rattle.std.specs.Prelude.{◌≡◌, map, IfOk};
 ghost use Rattle.std.specs.String.{string_bytes};
 ghost use Rattle.reg_desk.specs.ImportTexts.{text_at};
 ghost use Rattle.reg_desk.specs.ImportNotes.{name_of, note_in};

@@ -1,7 +1,6 @@
 //! The result of an import, before anything is written.
 
 ghost use Rattle.std.specs.Prelude.{◌≡◌, ◌⊎◌, ◌≤◌, ℕ, List, true, false, length, map, None, Some, IfOk, IfErr, OnOk};
-ghost use Rattle.reg_op.specs.Contents.{Content};
 ghost use Rattle.reg_import.specs.declared.reading.FileText.{FileText};
 ghost use Rattle.reg_import.specs.declared.action.TextAction.{TextAction};
 ghost use Rattle.reg_import.specs.Listed.{HasListed};

@@ -1,9 +1,8 @@
-use Rattle.std.proofs.Common.{◌≡◌, map, drop}
-use Rattle.std.specs.List.{fold}
-use Rattle.csv.specs.Records.{fields_of}
-use Rattle.csv_table.specs.Table.{columns, widened}
+use Rattle.std.proofs.Common.{List, ℕ}
+use Rattle.csv_table.specs.Records.{HasRead}
+use Rattle.csv_table.proofs.ColumnLemmas.{Columned}
 use Rattle.csv_table.proofs.columns.columns.Given as goal
 
--- the columns so far, widened by the remaining records, are the columns of all records
-abbrev pub invariant-loop-record : goal.invariant-loop-record
-invariant-loop-record l = fold (λ cs fields. widened fields cs) l.made.items (map fields_of (drop l.record-index l.fn.records)) ≡ columns (map fields_of l.fn.records)
+-- these are the columns of the records so far
+abbrev pub invariant-loop-row : goal.invariant-loop-row
+invariant-loop-row l = (records : List (List (List ℕ))) × HasRead l.fn.rows records l.row-iterator × Columned l.is_header records l.made.items

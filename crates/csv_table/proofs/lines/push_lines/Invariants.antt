@@ -1,8 +1,8 @@
-use Rattle.std.proofs.Common.{◌≡◌, ◌++◌, map, drop}
-use Rattle.csv.specs.Records.{fields_of}
+use Rattle.std.proofs.Common.{List, ℕ, ◌≡◌, ◌++◌}
+use Rattle.csv_table.specs.Records.{HasRead}
 use Rattle.csv_table.specs.Table.{lines}
 use Rattle.csv_table.proofs.lines.push_lines.Given as goal
 
--- the text so far, followed by the lines of the remaining records, is the whole text
-abbrev pub invariant-loop-record : goal.invariant-loop-record
-invariant-loop-record l = l.text.items ++ lines l.fn.columns (map fields_of (drop l.record-index l.fn.records)) ≡ l.fn.text.items ++ lines l.fn.columns (map fields_of l.fn.records)
+-- the text has the lines of the records so far
+abbrev pub invariant-loop-row : goal.invariant-loop-row
+invariant-loop-row l = (records : List (List (List ℕ))) × HasRead l.fn.rows records l.row-iterator × (l.text.items ≡ l.fn.text.items ++ lines l.fn.columns records)

@@ -1,4 +1,4 @@
-use Rattle.std.proofs.Common.{◌↔◌, ◌++◌, [], ◌∷◌, IsTrue, ap, sym, subst, ◌∙◌}
+use Rattle.std.proofs.Common.{◌↔◌, ◌++◌, [], ◌∷◌, IsTrue, ap, sym, subst}
 use Rattle.std.specs.Prelude.{Contains}
 use Rattle.std.specs.BTreeSet.{contains}
 use Rattle.reg_report.specs.Conflicts.{KeyBytes, bytes_of}
@@ -14,5 +14,5 @@ returns-in_ok-insert-in-Defined c = λ before has q.
     let new = contains text_cmp c.insert.new.self q in
     let k = key_bytes c.in_ok-key-in-Defined.key in
     subst (λ (r : ReadText). IsTrue new ↔ Contains (before ++ keys_in (r ∷ [])) (key_bytes q)) (sym c.in-Defined.is)
-    (subst (λ (b : KeyBytes). IsTrue new ↔ Contains (before ++ b ∷ []) (key_bytes q)) (c.in_ok-key-in-Defined.ensures ∙ ap bytes_of c.get.ensures)
+    (subst (λ (b : KeyBytes). IsTrue new ↔ Contains (before ++ b ∷ []) (key_bytes q)) (ap bytes_of c.in_ok-key-in-Defined.ensures)
     (key_added before k (key_bytes q) old new (c.in_ok-insert-in-Defined.ensures.updates.0 q) (has q)))

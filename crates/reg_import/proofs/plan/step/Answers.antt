@@ -1,4 +1,4 @@
-use Rattle.std.proofs.Common.{◌+◌, length}
+use Rattle.std.proofs.Common.{◌+◌, length, refl}
 use Rattle.reg_import.proofs.StepLemmas.{step_unread, step_defined_by}
 use Rattle.reg_import.proofs.plan.step.Goals as goal
 
@@ -13,4 +13,4 @@ returns-in_ok-told-in-Defined-clause-told c = λ at i.
     let rules = c.args.rules.now in
     let ops = c.args.made.now.ops.items in
     step_defined_by rules.differs rules.replica (rules.first + length ops) rules.note.now c.args.reading.now at c.step_defined.new.made.index ops c.step_defined.new.made.ops.items
-    c.in_ok-told-in-Defined.told c.in-Defined.definition _ _ c.in-Defined.is c.get.ensures (c.in_ok-told-in-Defined.ensures.told at i)
+    c.in_ok-told-in-Defined.told c.in-Defined.definition _ _ c.in-Defined.is refl (c.in_ok-told-in-Defined.ensures.told at i)

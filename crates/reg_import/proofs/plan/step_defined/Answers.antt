@@ -1,5 +1,6 @@
 use Rattle.std.proofs.Common.{ℕ, ◌+◌, ◌++◌, ◌≤◌, List, length, ap, sym, subst, ◌∙◌}
 use Rattle.reg_state.specs.Runs.{id_at}
+use Rattle.reg_report.specs.Conflicts.{bytes_of}
 use Rattle.reg_office.specs.Making.{numbered}
 use Rattle.reg_import.specs.declared.standing_entry.StandingEntry.{StandingEntry}
 use Rattle.reg_import.specs.declared.reading.ReadText.TheVariants as reading
@@ -16,7 +17,7 @@ push_ops-requires-clause-fits c =
     let n = c.count_after-count.result in
     let b = c.take-entries.result in
     subst (λ (k : List StandingEntry). n + length (bodies_of c.told_of-told.result c.args.definition.now k) ≤ 4294967296) (sym c.deref.ensures.value)
-    (told_fits rules.differs rules.replica n (entries_seen b) c.args.definition.now c.in_ok-spelled.spelled.items c.told_of-told.result c.told_of-told.ensures c.in_ok-spelled.ensures (subst (λ (k : ℕ). k ≤ 4294967296) (sym c.count_after-count.ensures) c.requires.fits))
+    (told_fits rules.differs rules.replica n (entries_seen b) c.args.definition.now c.in_ok-text.text.definition c.told_of-told.result c.told_of-told.ensures c.in_ok-text.ensures (subst (λ (k : ℕ). k ≤ 4294967296) (sym c.count_after-count.ensures) c.requires.fits))
 
 pub returns-clause-told : goal.returns-clause-told
 returns-clause-told c = λ at i.
@@ -24,11 +25,11 @@ returns-clause-told c = λ at i.
     let n = c.count_after-count.result in
     let b = c.take-entries.result in
     let t = c.told_of-told.result in
-    let is = c.told_of-told.ensures ∙ ap (told_of rules.differs (id_at rules.replica n) (entries_seen b)) c.in_ok-spelled.ensures in
+    let is = c.told_of-told.ensures ∙ ap (told_of rules.differs (id_at rules.replica n) (entries_seen b)) c.in_ok-text.ensures in
     let ops = c.in_ok-push_ops.ensures ∙ ap (λ (k : List StandingEntry). c.args.made.now.ops.items ++ numbered rules.replica n rules.note.now (bodies_of t c.args.definition.now k)) c.deref.ensures.value in
     subst (λ (k : ℕ). StepsOn rules.differs rules.replica k rules.note.now (reading.Defined c.args.definition.now c.args.key.now) at c.put.new.index c.args.made.now.ops.items c.push_ops.new.ops.items t) c.count_after-count.ensures
-    (step_is rules.differs rules.replica n rules.note.now c.args.definition.now c.args.key.now at c.in_ok-text.text b c.in_ok-after.after c.put.new.index c.args.made.now.ops.items c.push_ops.new.ops.items t
-    c.in_ok-text.ensures (c.take-entries.ensures.found at i) is ops c.in_ok-after.ensures (c.in_ok-put.ensures (with_key (key_bytes c.in_ok-text.text) nothing_there at) (c.take-entries.ensures.rest at i)))
+    (step_is rules.differs rules.replica n rules.note.now c.args.definition.now c.args.key.now at c.in_ok-indexed.indexed b c.in_ok-after.after c.put.new.index c.args.made.now.ops.items c.push_ops.new.ops.items t
+    (ap bytes_of c.in_ok-indexed.ensures) (c.take-entries.ensures.found at i) is ops c.in_ok-after.ensures (c.in_ok-put.ensures (with_key (key_bytes c.in_ok-indexed.indexed) nothing_there at) (c.take-entries.ensures.rest at i)))
 
 pub returns-clause-fits : goal.returns-clause-fits
 returns-clause-fits c =
@@ -40,4 +41,4 @@ returns-clause-fits c =
     then_fits rules.replica rules.first n rules.note.now c.args.made.now.ops.items c.push_ops.new.ops.items (bodies_of t c.args.definition.now known)
     (c.in_ok-push_ops.ensures ∙ ap (λ (k : List StandingEntry). c.args.made.now.ops.items ++ numbered rules.replica n rules.note.now (bodies_of t c.args.definition.now k)) c.deref.ensures.value)
     c.count_after-count.ensures
-    (told_fits rules.differs rules.replica n (entries_seen b) c.args.definition.now c.in_ok-spelled.spelled.items t c.told_of-told.ensures c.in_ok-spelled.ensures (subst (λ (k : ℕ). k ≤ 4294967296) (sym c.count_after-count.ensures) c.requires.fits))
+    (told_fits rules.differs rules.replica n (entries_seen b) c.args.definition.now c.in_ok-text.text.definition t c.told_of-told.ensures c.in_ok-text.ensures (subst (λ (k : ℕ). k ≤ 4294967296) (sym c.count_after-count.ensures) c.requires.fits))

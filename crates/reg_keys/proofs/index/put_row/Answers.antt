@@ -1,5 +1,4 @@
-use Rattle.std.proofs.Common.{[], ◌∷◌, map, sym, ap, ◌∙◌, subst}
-use Rattle.std.proofs.lemmas.List.{map-append}
+use Rattle.std.proofs.Common.{map, sym, subst}
 use Rattle.std.specs.BTreeMap.{get}
 use Rattle.std.specs.Ordering.{is_eq}
 use Rattle.reg_report.specs.Seen.{row_seen}
@@ -13,8 +12,8 @@ returns c = λ rs holds q.
     let old = get spelling_cmp c.args.by_key.now q in
     let new = get spelling_cmp c.insert.new.self q in
     let before = c.take-rows.result.items in
-    put_in (row_seen c.args.row) rs s.bytes.items q.bytes.items (rows_in old) (rows_in new) (map row_seen before) (map row_seen c.push.new.self.items) c.in_ok-spelling.ensures
+    put_in (row_seen c.args.row) rs s.bytes.items q.bytes.items (rows_in old) (rows_in new) (map row_seen before) (map row_seen c.push_row.new.rows.items) c.in_ok-spelling.ensures
     (subst (AreChosen (IsSpelled s.bytes.items) rs) (sym c.take-rows.ensures.found) (holds s))
-    (ap (map row_seen) c.in_ok-push.ensures.items ∙ map-append row_seen before (c.args.row ∷ []))
-    (twice (is_eq (spelling_cmp s q)) c.push.new.self new (get spelling_cmp c.take-rows.new.by_key q) old (c.in_ok-insert.ensures.updates.0 q) (c.take-rows.ensures.rest q))
+    c.in_ok-push_row.ensures
+    (twice (is_eq (spelling_cmp s q)) c.push_row.new.rows new (get spelling_cmp c.take-rows.new.by_key q) old (c.in_ok-insert.ensures.updates.0 q) (c.take-rows.ensures.rest q))
     (holds q)

@@ -1,5 +1,6 @@
 use Rattle.std.proofs.Common.{ap, ◌∙◌, map, ℕ}
 use Rattle.std.specs.Global.{Vec}
+use Rattle.crs_value.specs.declared.key.Key.{Key}
 use Rattle.std.specs.List.{flat_map}
 use Rattle.html_page.proofs.JoinLemmas.{next}
 use Rattle.html_page.specs.Templates.{entry_start, entry_text, question, entry_id, event, by, map_of, area, kind_and_standing}
@@ -16,16 +17,16 @@ pub returns : goal.returns
 returns c =
     let t = c.args.one.now in
     let d = t.system in
-    let start = as_others _ (entry_start (printed t.id) t.authority.items t.code.items d.name.items)
-    (λ j. entry_start ((c.deref.ensures.value ∙ c.in_ok-id.ensures) j) (c.deref-2.ensures.value j) (c.deref-3.ensures.value j) (c.deref-4.ensures.value j)) c.in_ok-push_entry_start.ensures in
-    let maps = as_others _ (flat_map map_of (map box_seen d.boxes.items)) (λ j. flat_map map_of (map box_seen (c.deref-5.ensures.value j))) c.in_ok-push_maps.ensures in
-    let text = as_others _ (entry_text d.text.items) (ap entry_text c.deref-6.ensures.value) c.in_ok-push_entry_text.ensures in
+    let start = as_others _ (entry_start (printed t.id) t.key.authority.bytes t.key.code.bytes d.name.items)
+    (λ j. entry_start ((c.deref.ensures.value ∙ c.in_ok-id.ensures) j) ((c.as_bytes.ensures ∙ ap (λ (k : Key). k.authority.bytes) c.get-key.ensures) j) ((c.as_bytes-2.ensures ∙ ap (λ (k : Key). k.code.bytes) c.get-key.ensures) j) (c.deref-2.ensures.value j)) c.in_ok-push_entry_start.ensures in
+    let maps = as_others _ (flat_map map_of (map box_seen d.boxes.items)) (λ j. flat_map map_of (map box_seen (c.deref-3.ensures.value j))) c.in_ok-push_maps.ensures in
+    let text = as_others _ (entry_text d.text.items) (ap entry_text c.deref-4.ensures.value) c.in_ok-push_entry_text.ensures in
     let questions = as_others _ (flat_map question (map (λ (q : Vec ℕ). q.items) d.questions.items))
-    (λ j. flat_map question (map (λ (q : Vec ℕ). q.items) (c.deref-7.ensures.value j))) c.in_ok-push_questions.ensures in
+    (λ j. flat_map question (map (λ (q : Vec ℕ). q.items) (c.deref-5.ensures.value j))) c.in_ok-push_questions.ensures in
     let entered = as_others _ (entry_id (named c.args.names.now (printed t.id)) t.note.items)
-    (λ j. entry_id ((c.deref-8.ensures.value ∙ c.in_ok-read.ensures) j) (c.deref-9.ensures.value j)) c.in_ok-push_entry_id.ensures in
+    (λ j. entry_id ((c.deref-6.ensures.value ∙ c.in_ok-read.ensures) j) (c.deref-7.ensures.value j)) c.in_ok-push_entry_id.ensures in
     let areas = as_others _ (flat_map area (map (λ (a : Vec ℕ). a.items) d.areas.items))
-    (λ j. flat_map area (map (λ (a : Vec ℕ). a.items) (c.deref-10.ensures.value j))) c.in_ok-push_areas.ensures in
+    (λ j. flat_map area (map (λ (a : Vec ℕ). a.items) (c.deref-8.ensures.value j))) c.in_ok-push_areas.ensures in
     let standing = as_others _ (kind_and_standing (kind_word d.kind) (standing_of (status c.args.register.now.ops t.id))) (λ j. kind_and_standing (c.kind_word.ensures j) (c.standing_of.ensures j)) c.in_ok-push_standing.ensures in
     let events = as_others _ (flat_map (event (named c.args.names.now)) (flat_map (events_in c.args.described.now t.id) c.args.acts.now))
     (ap (flat_map (event (named c.args.names.now))) (ap (flat_map (events_in c.args.described.now t.id)) c.acts_on-mine.ensures ∙ events_on c.args.described.now t.id c.args.acts.now)) c.in_ok-push_events.ensures in

@@ -1,4 +1,4 @@
-use Rattle.std.proofs.Common.{refl, inl, inr, ◌∙◌}
+use Rattle.std.proofs.Common.{◌∙◌}
 use Rattle.reg_desk.proofs.LinkedLemmas.{spent_here, memory_here, joined_here, only_imported, linked_from}
 use Rattle.reg_desk.proofs.import.linked.link_on.Goals as goal
 

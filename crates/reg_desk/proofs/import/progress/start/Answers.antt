@@ -1,4 +1,4 @@
-use Rattle.std.proofs.Common.{refl, []}
+use Rattle.std.proofs.Common.{refl}
 use Rattle.reg_desk.specs.Import.{listing_of}
 use Rattle.reg_desk.proofs.ProgressLemmas.{none_come}
 use Rattle.reg_desk.proofs.import.progress.start.Goals as goal

@@ -1,8 +1,7 @@
-use Rattle.std.proofs.Common.{List, ℕ, ◌++◌, [], ◌∷◌, cond, ap, sym, subst, ◌∙◌, refl}
+use Rattle.std.proofs.Common.{◌++◌, [], ◌∷◌, cond, sym, subst, ◌∙◌}
 use Rattle.reg_import.specs.declared.listing.Listing.{Listing}
 use Rattle.reg_import.specs.Readings.{readings}
 use Rattle.reg_import.specs.Listed.{HasListed}
-use Rattle.reg_desk.specs.Import.{names_of}
 use Rattle.reg_desk.specs.ImportTexts.{text_at}
 use Rattle.reg_desk.specs.ImportNotes.{note_in}
 use Rattle.reg_desk.proofs.ProgressLemmas.{one_come}

@@ -1,4 +1,4 @@
-use Rattle.std.proofs.Common.{◌∙◌, ap, arith, length, length-drop, sym}
+use Rattle.std.proofs.Common.{◌∙◌, ap, arith, length, length-drop}
 use Rattle.std.proofs.lemmas.List.{take_rest}
 use Rattle.wkt_texts.specs.Texts.{piece_of}
 use Rattle.wkt_texts.proofs.Nexts.{next_len, next_less}
