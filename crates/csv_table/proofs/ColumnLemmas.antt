@@ -1,6 +1,6 @@
 -- The columns of the records so far.
 use Rattle.std.proofs.Common.{Bor, List, ℕ, Bool, true, false, ◌≡◌, ◌∙◌, ◌++◌, ◌∷◌, [], if◌then◌else◌, map, ap, refl, sym}
-use Rattle.std.specs.List.{fold}
+use Rattle.std.proofs.lemmas.List.Sums.{fold-append}
 use Rattle.csv_table.specs.declared.columns.Column.{Column}
 use Rattle.csv_table.specs.Table.{named, widened, columns}
 
@@ -14,11 +14,6 @@ Columned true records made = (records ≡ []) × (made ≡ [])
 Columned false [] made = ⊥
 Columned false (r ∷ rs) made = made ≡ columns (r ∷ rs)
 
-folded_more : (cs : List Column) (rs : List (List (List ℕ))) (fields : List (List ℕ))
-    → fold (λ (cs : List Column) (fields : List (List ℕ)). widened fields cs) cs (rs ++ fields ∷ []) ≡ widened fields (fold (λ (cs : List Column) (fields : List (List ℕ)). widened fields cs) cs rs)
-folded_more cs [] fields = refl
-folded_more cs (r ∷ rs) fields = folded_more (widened r cs) rs fields
-
 -- after one more record, whose fields are these
 pub columned_more : (is_header : Bool) (records : List (List (List ℕ))) (old new : List Column) (fields : List (Bor (List ℕ))) (row : List (List ℕ)) → Columned is_header records old
     → map (λ (f : Bor (List ℕ)). f.now) fields ≡ row
@@ -28,7 +23,7 @@ columned_more true [] old new fields row (none, empty) f is =
 columned_more true (r ∷ rs) old new fields row (none, empty) f is = absurd (cc none)
 columned_more false [] old new fields row none f is = absurd none
 columned_more false (r ∷ rs) old new fields row same f is =
-    is ∙ ap (λ (fs : List (List ℕ)). widened fs old) f ∙ ap (widened row) same ∙ sym (folded_more (map named r) (r ∷ rs) row)
+    is ∙ ap (λ (fs : List (List ℕ)). widened fs old) f ∙ ap (widened row) same ∙ sym (fold-append (λ (cs : List Column) (fields : List (List ℕ)). widened fields cs) (map named r) (r ∷ rs) (row ∷ []))
 
 pub columned_all : (is_header : Bool) (records : List (List (List ℕ))) (made : List Column) → Columned is_header records made → made ≡ columns records
 columned_all true records made (none, empty) = empty ∙ ap columns (sym none)
