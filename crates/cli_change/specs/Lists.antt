@@ -4,9 +4,9 @@ use Rattle.reg_engine.specs.declared.fault.CliFault.{CliFault}
 use Rattle.reg_engine.specs.declared.fault.CliFault.TheVariants as cli
 use Rattle.reg_supersede.specs.declared.fault.RefusedLine.{RefusedLine}
 use Rattle.reg_supersede.specs.Engine.{Refuses}
-use Rattle.cli_outcome.specs.declared.outcome.Done.{Done}
-use Rattle.cli_outcome.specs.declared.outcome.NotDone.{NotDone}
-use Rattle.cli_outcome.specs.declared.outcome.NotDone.TheVariants as stop
+use Rattle.cli_open.specs.declared.ending.outcome.Done.{Done}
+use Rattle.cli_open.specs.declared.ending.outcome.NotDone.{NotDone}
+use Rattle.cli_open.specs.declared.ending.outcome.NotDone.TheVariants as stop
 use Rattle.cli_change.specs.declared.change.ToldLine.{ToldLine}
 use Rattle.cli_change.specs.declared.change.ListFault.{ListFault}
 use Rattle.cli_change.specs.declared.change.ListFault.TheVariants as list

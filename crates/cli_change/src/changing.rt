@@ -6,7 +6,7 @@ use cli_open::engines::streams::Writing;
 use cli_open::engines::{Change, CliFault, Keep, run_change};
 use cli_open::{RegisterTarget, explains, open_target, word};
 use reg_news::News;
-use reg_watch::{Told, change_and_tell};
+use reg_news::watch::{Told, change_and_tell};
 use std::fs::File;
 use std::io::{self, Write};
 

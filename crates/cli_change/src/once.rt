@@ -5,7 +5,7 @@ use cli_open::engines::places::Place;
 use cli_open::engines::streams::Writing;
 use cli_open::engines::{CliFault, run_change};
 use cli_open::{OpenOffice, RegisterTarget, open_target, word};
-use reg_again::{Effects, Once};
+use reg_commands::again::{Effects, Once};
 use std::alloc::Global;
 use std::fs::File;
 use std::io::{self, Write};

@@ -1,9 +1,9 @@
 //! Says what a command brought, and what no row shows of it.
 use cli_faults::{CommandFiles, say};
 use cli_open::engines::registers::Register;
-use reg_hidden::hidden_in;
-use reg_merge::Merged;
+use reg_news::gained::hidden_in;
 use reg_news::news_of;
+use reg_take::merge::Merged;
 
 /// The register before and after a take.
 #[derive(Drop)]

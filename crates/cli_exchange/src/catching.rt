@@ -9,8 +9,8 @@ use cli_open::{
     OpenOffice, OpenedRegister, Rows, answered, explains, open_office, open_register, open_target,
     word,
 };
-use reg_catch::{CatchUp, Catching, WouldCatchUp, caught_up};
-use reg_watch::{Notes, Watched};
+use reg_news::watch::{Notes, Watched};
+use reg_take::own::{CatchUp, Catching, WouldCatchUp, caught_up};
 use std::alloc::Global;
 use std::io::{self, Write};
 

@@ -12,7 +12,7 @@ use cli_open::{
 use reg_commands::{
     FirstVersion, PieceFor, SeenFile, Whole, run_merge, run_merge_on, run_new, run_shelf,
 };
-use reg_merge::{Merged, merge_files, merge_shelf};
+use reg_take::merge::{Merged, merge_files, merge_shelf};
 use std::fs::{self, File, OpenFile};
 use std::mem::forget;
 use std::rt::Files;

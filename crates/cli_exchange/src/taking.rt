@@ -1,6 +1,6 @@
 //! The command `take`.
 
-ghost use Rattle.cli_outcome.specs.Outcome.{IsEnded, IsPart};
+ghost use Rattle.cli_open.specs.Outcome.{IsEnded, IsPart};
 ghost use Rattle.reg_take.specs.declared.effect.TakeEffect.{TakeEffect};
 
 use crate::as_office::take_as;
@@ -9,9 +9,9 @@ use crate::brought::Gained;
 use crate::catching::catch_up;
 use byte_io::{LateFile, LateSource};
 use clap::ArgMatches;
+use cli_open::ending::{Done, NotDone, Outcome, all_done};
 use cli_open::engines::CliFault;
 use cli_open::{Rows, answered, office_file, open_register, open_target, word};
-use cli_outcome::{Done, NotDone, Outcome, all_done};
 use reg_take::{LeftOut, TakeEffect, run_take, try_take};
 use std::alloc::{AllocError, Global};
 use std::io;

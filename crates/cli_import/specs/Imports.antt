@@ -1,9 +1,9 @@
 -- How an import ends.
 use Rattle.std.specs.Prelude.{◌≡◌, false, [], Result, Ok, Err}
 use Rattle.reg_desk.specs.declared.import.fault.Unimported.{Unimported}
-use Rattle.cli_outcome.specs.declared.outcome.Done.{Done}
-use Rattle.cli_outcome.specs.declared.outcome.NotDone.{NotDone}
-use Rattle.cli_outcome.specs.declared.outcome.NotDone.TheVariants as stop
+use Rattle.cli_open.specs.declared.ending.outcome.Done.{Done}
+use Rattle.cli_open.specs.declared.ending.outcome.NotDone.{NotDone}
+use Rattle.cli_open.specs.declared.ending.outcome.NotDone.TheVariants as stop
 use Rattle.cli_import.specs.declared.brought.Brought.{Brought}
 use Rattle.cli_import.specs.declared.importing.NotImported.{NotImported}
 

@@ -1,10 +1,10 @@
 //! The command `enter`.
 use clap::ArgMatches;
 use cli_change::{Desk, change_once, office_named, open_desk};
+use cli_open::ending::{Outcome, ended};
 use cli_open::engines::places::Place;
 use cli_open::engines::streams::Source;
 use cli_open::{RegisterTarget, explains, files_before, open, open_target, word};
-use cli_outcome::{Outcome, ended};
 use reg_desk::{CliFault, Enter, Explained, Recorded, explained_fault};
 use std::alloc::Global;
 use std::fs::File;

@@ -8,6 +8,7 @@ use crate::tried::Tried;
 use byte_io::{LateFile, LateSource};
 use clap::ArgMatches;
 use cli_change::{Desk, Notes, TWICE, Watched, office_named, open_desk};
+use cli_open::ending::{NotDone, Outcome, all_done};
 use cli_open::engines::places::Place;
 use cli_open::engines::{Either, Keep};
 use cli_open::guards::{OfficeFile, TriedFile, TriedShelf};
@@ -15,7 +16,6 @@ use cli_open::{
     RegisterTarget, Rows, STANDARD_INPUT, STANDARD_INPUT_PATH, answered, explains, files_before,
     is_twice, open_target, word,
 };
-use cli_outcome::{NotDone, Outcome, all_done};
 use reg_desk::{
     CliFault, Differs, FileDisk, HasRoom, ImportFault, ImportOptions, InputFault, InputOf, OfFile,
     OnShelf, Reading, Source, Unimported, Writing, run_import, try_import,

@@ -1,9 +1,9 @@
 //! The command `settle`.
 use clap::ArgMatches;
 use cli_change::{TWICE, changed, office_named, open_desk};
+use cli_open::ending::{NotDone, Outcome, ended};
 use cli_open::engines::CliFault;
 use cli_open::{entries, is_twice, listed, push_listed, word};
-use cli_outcome::{NotDone, Outcome, ended};
 use reg_desk::{Settle, SettleEqual};
 
 /// `settle`.

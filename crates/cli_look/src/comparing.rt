@@ -1,8 +1,8 @@
 //! `compare`: what differs between the texts of entries, and of a file.
 use crate::look::tells;
 use clap::ArgMatches;
+use cli_open::ending::{NotDone, Outcome, compared};
 use cli_open::{entry, explains, next_file, open_register, open_text, word};
-use cli_outcome::{NotDone, Outcome, compared};
 use reg_desk::{
     ByWord, CliFault, ImportFault, OpId, Print, Problem, Recorded, Source, Unimported, Writing,
     explain_within,

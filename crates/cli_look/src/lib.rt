@@ -2,6 +2,7 @@
 #![tactic(auto)]
 
 mod comparing;
+pub mod handing;
 mod linting;
 mod look;
 mod reporting;

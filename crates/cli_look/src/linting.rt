@@ -2,8 +2,8 @@
 use crate::comparing::with_plain_fault;
 use crate::look::tells;
 use clap::ArgMatches;
+use cli_open::ending::{NotDone, Outcome, compared};
 use cli_open::{Rows, answered, explains, is_twice, next_file, open, open_register, open_text};
-use cli_outcome::{NotDone, Outcome, compared};
 use desk_lint::{
     ANY_RULES, AnyRule, KeptSubject, TextsFault, read_texts, run_lint, run_lint_kept, usual_of,
 };

@@ -1,22 +1,22 @@
 //! Commands that print something of a text, of a register, or of several registers.
 
-ghost use Rattle.cli_outcome.specs.Outcome.{IsComparedBy};
+ghost use Rattle.cli_open.specs.Outcome.{IsComparedBy};
 ghost use Rattle.reg_desk.specs.declared.comparison.Comparison.{Comparison};
 
 use byte_io::LateFile;
 use clap::ArgMatches;
 use cli_faults::{CommandFiles, say};
+use cli_open::ending::{NotDone, Outcome, difference, ended};
 use cli_open::{
     Rows, STANDARD_INPUT, answered, entries, explains, next_file, open, open_all, open_register,
     open_to_read, print_of, push_words, wanted, word,
 };
-use cli_outcome::{NotDone, Outcome, difference, ended};
 use reg_desk::{
     CliFault, Comparison, Explained, FileDisk, Find, FindIds, Kind, LateAt, Lockable, LogAll,
     LogByWords, LogOf, Offices, OpenedDisk, Point, Query, Reading, Recorded, ShelfAt, Source,
     Writing, run_check, run_check_explained, run_diff, run_status,
 };
-use reg_hidden::hidden_in;
+use reg_news::gained::hidden_in;
 use reg_texts::Texts;
 use std::alloc::{AllocError, Global};
 use std::io::{self, Write};

@@ -1,1 +1,2 @@
 mod Unspelled
+pub mod Telling

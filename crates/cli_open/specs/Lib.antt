@@ -6,3 +6,4 @@ pub mod Reading
 pub mod Targets
 pub mod Used
 pub mod Words
+pub mod Outcome

@@ -1,6 +1,6 @@
 -- How a command ends that cannot read its file of names.
 use Rattle.std.specs.Prelude.{ℕ, Bool, true, false, if◌then◌else◌}
-use Rattle.office_names.specs.declared.fault.NamesFault.TheVariants as fault
+use Rattle.csv_table.specs.declared.offices.fault.NamesFault.TheVariants as fault
 use Rattle.reg_engine.specs.declared.fault.CliFault.TheVariants as cli
 use Rattle.reg_engine.specs.Fault.{status_of}
 use Rattle.cli_open.specs.declared.naming.NamesProblem.{NamesProblem}

@@ -1,6 +1,7 @@
 //! Opens what a command line names: registers in files and on shelves, OUT, and where rows are printed.
 #![tactic(auto)]
 
+pub mod ending;
 mod inputs;
 mod lines;
 mod naming;
@@ -30,6 +31,6 @@ pub use words::{
 
 // The crates of which the commands above use items, so that they need only this one.
 pub use byte_place::{HostSystem, NewPlace, OutPlace};
-pub use office_names::{Name, named};
+pub use csv_table::offices::{Name, named};
 pub use reg_guard as guards;
 pub use reg_guard::engine as engines;

@@ -5,7 +5,7 @@ ghost use Rattle.cli_open.specs.NameFaults.{is_memory, names_status};
 
 use crate::words::open;
 use clap::ArgMatches;
-use office_names::{Name, NamesFault, read};
+use csv_table::offices::{Name, NamesFault, read};
 use reg_guard::engine::CliFault;
 use reg_guard::engine::streams::{InFault, read_up_to};
 use std::alloc::Global;

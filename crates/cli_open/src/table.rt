@@ -1,8 +1,8 @@
 //! The rows that a command prints, or with `--table` the table of them.
 use crate::naming::names_again;
 use clap::ArgMatches;
+use csv_table::offices::{Name, with_names};
 use csv_table::{TableFault, told_as_table};
-use office_names::{Name, with_names};
 use reg_guard::engine::streams::Writing;
 use reg_guard::engine::{CliFault, OutFault};
 use std::alloc::{AllocError, Global};

@@ -7,6 +7,7 @@ mod checking;
 mod crs;
 mod key;
 mod kinds;
+pub mod search;
 mod sizes;
 mod systems;
 

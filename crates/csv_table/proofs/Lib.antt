@@ -5,3 +5,5 @@ mod LineLemmas
 mod LossyLemmas
 mod ReadLemmas
 mod HiddenLemmas
+mod NamesReadLemmas
+mod ShownLemmas

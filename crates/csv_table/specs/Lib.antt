@@ -3,3 +3,7 @@ pub mod Cells
 pub mod Table
 pub mod Records
 pub mod Answer
+pub mod Names
+pub mod Reading
+pub mod Shown
+pub mod Sheets

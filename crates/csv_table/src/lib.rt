@@ -7,6 +7,7 @@ mod columns;
 pub mod laws;
 mod lines;
 mod marks;
+pub mod offices;
 pub mod records;
 
 pub use answer::{TableFault, told_as_table};

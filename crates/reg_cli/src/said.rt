@@ -3,10 +3,10 @@ use crate::telling::{Said, SaidLast, StandardError};
 use cli_exchange::faults::sentences::{KeyTaken, LEAVES_OUT, Shown, SpecialCommand};
 use cli_exchange::faults::{CommandFiles, SecondLook, add, explain, explain_word, say};
 use cli_exchange::{Gained, say_gained};
-use cli_hand::LeftKey;
 use cli_import::changes::{ListFault, ToldLine};
 use cli_import::{Brought, NotImported, say_brought};
 use cli_look::desk::{CliFault, Comparison, Explained, ImportFault, OpId, Refusal, Unimported};
+use cli_look::handing::LeftKey;
 use cli_look::say_hidden;
 use reg_take::LeftOut;
 

@@ -2,7 +2,7 @@
 
 use clap::ArgMatches;
 use cli_exchange::faults::CommandFiles;
-use cli_outcome::Teller;
+use cli_open::ending::Teller;
 use std::fmt;
 
 /// Standard error, for a command with these arguments. The command's files are known if sentences are on.

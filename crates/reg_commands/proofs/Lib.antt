@@ -7,3 +7,4 @@ mod ReportLemmas
 mod KeyedLemmas
 mod MeaningLemmas
 mod EachLemmas
+mod IdLemmas

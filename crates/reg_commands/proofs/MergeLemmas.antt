@@ -5,7 +5,7 @@ use Rattle.reg_op.specs.Ids.{Id}
 use Rattle.reg_op.specs.Operations.{Ops, OneBody, kept}
 use Rattle.reg_op.specs.Contents.{Content, state, nothing, joined}
 use Rattle.reg_op.specs.Pieces.{Piece, PieceRefusal, Basis, Clash, part_of, first_missing, joined_where, joined_piece}
-use Rattle.reg_join.specs.Joining.{all_joined, joined_with}
+use Rattle.reg_op.specs.Joining.{all_joined, joined_with}
 use Rattle.reg_file.specs.declared.parts.Part.{Part}
 use Rattle.reg_file.specs.declared.parts.Part.TheVariants as part
 use Rattle.reg_state.specs.ManyLaws.{all_ops, all_seen, all_of, merged_all}

@@ -9,3 +9,4 @@ pub mod Report
 pub mod MergeOn
 pub mod Meaning
 pub mod Keyed
+pub mod Once

@@ -5,7 +5,7 @@ use Rattle.byte_out.specs.Place.{PlaceState}
 use Rattle.reg_op.specs.Contents.{Content, nothing, joined}
 use Rattle.reg_op.specs.Ids.{Id}
 use Rattle.reg_op.specs.Pieces.{PieceRefusal, Basis, Clash, part_of}
-use Rattle.reg_join.specs.Joining.{all_joined}
+use Rattle.reg_op.specs.Joining.{all_joined}
 pub use Rattle.reg_tree.specs.Chain.{with_pieces}
 use Rattle.reg_file.specs.Files.{Holds}
 use Rattle.reg_file.specs.declared.parts.Part.{Part}

@@ -2,6 +2,7 @@
 //! and commands on the entries that words name, by id or by key.
 #![tactic(auto)]
 
+pub mod again;
 mod change;
 mod check;
 mod exchange;

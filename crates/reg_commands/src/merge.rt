@@ -2,7 +2,7 @@
 
 ghost use Rattle.std.specs.Prelude.{◌≡◌, ◌≢◌, map, None, Ok, Err, IfOk, OnOk, IfErr};
 ghost use Rattle.byte_out.specs.Input.{kept_of, first_kept};
-ghost use Rattle.reg_join.specs.Joining.{all_joined};
+ghost use Rattle.reg_op.specs.Joining.{all_joined};
 ghost use Rattle.reg_op.specs.Contents.{nothing, joined};
 ghost use Rattle.reg_tree.specs.Chain.{with_pieces};
 ghost use Rattle.reg_engine.specs.Outputs.{PublishesFile, IsUnpublished};

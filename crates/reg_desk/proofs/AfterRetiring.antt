@@ -26,15 +26,15 @@ use Rattle.reg_office.proofs.LawLemmas.{bodies_are}
 use Rattle.reg_report.proofs.ConflictLemmas.{none_in, in_cons, in_head, in_tail, in_map, from_map, member_of_any}
 use Rattle.reg_report.proofs.EntryLemmas.{row_is_entered, row_of_entry}
 use Rattle.reg_report.proofs.PairLemmas.{it_enters}
-use Rattle.reg_links.specs.declared.link.Link.{Link}
-use Rattle.reg_links.specs.Passing.{body_of, bodies_of}
-use Rattle.reg_links.specs.Retiring.{RetiresFor}
+use Rattle.reg_disorder.specs.declared.linking.link.Link.{Link}
+use Rattle.reg_disorder.specs.Passing.{body_of, bodies_of}
+use Rattle.reg_disorder.specs.Retiring.{RetiresFor}
 use Rattle.reg_report.proofs.RowLemmas.{row_status, row_enters}
-use Rattle.reg_links.proofs.Rows.{of_filter, retired_if, stands_if}
-use Rattle.reg_links.specs.Links.{is_linked}
-use Rattle.reg_links.specs.Heirs.{IsHeir}
-use Rattle.reg_links.specs.Law.{SupersedesNone, IsHeirOfBoth}
-use Rattle.reg_links.proofs.Passes.{retires_after, enters_after, same_links, passes_on, linked_is_superseded}
+use Rattle.reg_disorder.proofs.Rows.{of_filter, retired_if, stands_if}
+use Rattle.reg_disorder.specs.Links.{is_linked}
+use Rattle.reg_disorder.specs.LinkHeirs.{IsHeir}
+use Rattle.reg_disorder.specs.Law.{SupersedesNone, IsHeirOfBoth}
+use Rattle.reg_disorder.proofs.Passes.{retires_after, enters_after, same_links, passes_on, linked_is_superseded}
 
 -- ---- a retirement among others
 

@@ -9,12 +9,12 @@ use Rattle.reg_op.specs.Contents.{Content, IsContent}
 use Rattle.reg_op.specs.Rows.{Row, rows, IsInConflict}
 use Rattle.reg_op.specs.declared.status.Status.TheVariants.{Retired}
 use Rattle.reg_op.proofs.OpLemmas.{id_total, id_exact}
-use Rattle.reg_links.proofs.Rows.{one_row}
+use Rattle.reg_disorder.proofs.Rows.{one_row}
 use Rattle.reg_report.specs.Conflicts.{KeyBytes, HasKey}
 use Rattle.reg_report.proofs.ConflictLemmas.{none_in}
-use Rattle.reg_settle.specs.Settling.{IsSettled}
-use Rattle.reg_settle.specs.Doubles.{IsDouble, AreDoubles}
-use Rattle.reg_settle.proofs.Settled.{picked, covers, Agree, all_agree}
+use Rattle.reg_disorder.specs.Settling.{IsSettled}
+use Rattle.reg_disorder.specs.Doubles.{IsDouble, AreDoubles}
+use Rattle.reg_disorder.proofs.Settled.{picked, covers, Agree, all_agree}
 use Rattle.reg_desk.proofs.AfterRetiring.{Leaves, is_retired_after, Comes, comes}
 
 before_cases : (i j : Id) → (is_before i j ≡ true) ⊎ ((i ≡ j) ⊎ (is_before j i ≡ true))

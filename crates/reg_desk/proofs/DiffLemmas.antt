@@ -2,7 +2,7 @@
 use Rattle.std.proofs.Common.{◌≡◌, ◌∷◌, [], Bool, true, false, List, ℕ, Ok, refl, ap, sym, subst, ◌∙◌}
 use Rattle.byte_io.specs.Device.{SourceState, SinkState}
 use Rattle.reg_file.specs.declared.parts.Part.{Part}
-use Rattle.reg_join.specs.Joining.{all_joined}
+use Rattle.reg_op.specs.Joining.{all_joined}
 use Rattle.reg_op.specs.Contents.{Content, nothing, joined}
 use Rattle.reg_op.specs.Pieces.{Piece}
 use Rattle.reg_query.specs.DiffLines.{IsDiff}

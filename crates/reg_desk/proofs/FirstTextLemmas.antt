@@ -1,8 +1,8 @@
 -- The first text of a file, and of some files.
 use Rattle.std.proofs.Common.{◌≡◌, ◌∷◌, ◌++◌, [], List, ℕ, ◌+◌, length, map, drop, refl, sym, subst}
 use Rattle.wkt_tree.specs.Tree.{Piece}
-use Rattle.wkt_texts.specs.Texts.{begin, IsNext, AreTexts, IsCutInto}
-use Rattle.wkt_texts.proofs.EachCut.{some_texts}
+use Rattle.wkt_compare.specs.Texts.{begin, IsNext, AreTexts, IsCutInto}
+use Rattle.wkt_compare.proofs.EachCut.{some_texts}
 use Rattle.reg_desk.specs.ImportTexts.{TextAt, in_file, AreCuts}
 use Rattle.reg_desk.proofs.ImportTextLemmas.{CutsComplete, some_cuts}
 

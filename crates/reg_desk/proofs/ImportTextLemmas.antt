@@ -6,8 +6,8 @@ use Rattle.std.proofs.lemmas.Bool.{true≢false, and_parts, or_left, or_right, n
 use Rattle.std.proofs.lemmas.List.{map-append}
 use Rattle.wkt_tree.specs.Bytes.{is_blank}
 use Rattle.wkt_tree.specs.Tree.{Piece}
-use Rattle.wkt_texts.specs.Texts.{begin, IsNext, AreTexts, IsCutInto}
-use Rattle.wkt_texts.proofs.EachCut.{some_texts, each_cut}
+use Rattle.wkt_compare.specs.Texts.{begin, IsNext, AreTexts, IsCutInto}
+use Rattle.wkt_compare.proofs.EachCut.{some_texts, each_cut}
 use Rattle.reg_op.specs.Contents.{Content}
 use Rattle.reg_import.specs.declared.reading.FileText.{FileText}
 use Rattle.reg_import.specs.declared.action.TextAction.{TextAction}

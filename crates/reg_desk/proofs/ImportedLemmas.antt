@@ -23,8 +23,8 @@ use Rattle.reg_import.specs.Imports.{effects}
 use Rattle.reg_import.proofs.StandingLemmas.{then_one_body, then_kept}
 use Rattle.reg_import.proofs.LastLemmas.{AreKeyed, SameEntries}
 use Rattle.reg_import.proofs.LawLemmas.{are_keyed, import_alike, refused_alike, exported_pass, exported_read, import_exported}
-use Rattle.reg_links.specs.Links.{links_in}
-use Rattle.reg_links.specs.Passing.{bodies_of, PassesOn, IsNotPassedOn}
+use Rattle.reg_disorder.specs.Links.{links_in}
+use Rattle.reg_disorder.specs.Passing.{bodies_of, PassesOn, IsNotPassedOn}
 use Rattle.reg_office.specs.declared.fault.OfficeFault.TheVariants as office
 use Rattle.reg_engine.specs.Fault.{office_fault}
 use Rattle.reg_engine.specs.declared.fault.Refusal.TheVariants as refusal

@@ -23,7 +23,7 @@ use Rattle.reg_office.specs.Making.{greatest, made, made_unless, else_next}
 use Rattle.reg_office.specs.Commands.{Does}
 use Rattle.reg_import.proofs.StandingLemmas.{still_entered, then_retired, nothing_done, gone}
 use Rattle.reg_import.proofs.LastLemmas.{SameEntries}
-use Rattle.reg_links.specs.declared.link.Link.{Link}
+use Rattle.reg_disorder.specs.declared.linking.link.Link.{Link}
 use Rattle.reg_import.specs.declared.standing_entry.StandingEntry.{StandingEntry}
 use Rattle.reg_import.specs.declared.reading.ReadText.{ReadText}
 use Rattle.reg_import.specs.declared.reading.ReadText.TheVariants as reading
@@ -35,12 +35,12 @@ use Rattle.reg_import.specs.Imports.{told_at, then_at, imports, effects}
 use Rattle.reg_import.specs.Imports as importing
 use Rattle.reg_import.specs.Plans.{Imports}
 use Rattle.reg_report.specs.Conflicts.{bytes_of}
-use Rattle.reg_links.specs.Links.{stands, supersedes_by, is_linked, links_in, link_cmp}
-use Rattle.reg_links.specs.Heirs.{IsHeir}
-use Rattle.reg_links.specs.Law.{SupersedesNone, IsHeirOfBoth, WasAwaited}
-use Rattle.reg_links.specs.Passing.{is_cut, AreHeirLinks, body_of, bodies_of, PassesOn, IsNotPassedOn}
-use Rattle.reg_links.proofs.Passes.{is_link, passes_on, comes_from}
-use Rattle.reg_links.proofs.Allowed.{link_total}
+use Rattle.reg_disorder.specs.Links.{stands, supersedes_by, is_linked, links_in, link_cmp}
+use Rattle.reg_disorder.specs.LinkHeirs.{IsHeir}
+use Rattle.reg_disorder.specs.Law.{SupersedesNone, IsHeirOfBoth, WasAwaited}
+use Rattle.reg_disorder.specs.Passing.{is_cut, AreHeirLinks, body_of, bodies_of, PassesOn, IsNotPassedOn}
+use Rattle.reg_disorder.proofs.Passes.{is_link, passes_on, comes_from}
+use Rattle.reg_disorder.proofs.Allowed.{link_total}
 use Rattle.reg_desk.specs.declared.import.options.ImportOptions.{ImportOptions}
 use Rattle.reg_desk.specs.ImportLinks.{ImportsLinked}
 use Rattle.reg_desk.proofs.AfterRetiring.{entered_before, no_enter}

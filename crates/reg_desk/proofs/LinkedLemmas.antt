@@ -25,9 +25,9 @@ use Rattle.reg_import.specs.Plans.{AreSteps, PassesAll, IsPassedPlan, Imports}
 use Rattle.reg_import.specs.Taking.{HasTaken}
 use Rattle.reg_import.proofs.TakingLemmas.{taken_steps, taken_may}
 use Rattle.reg_import.proofs.AtOnceLemmas.{imported_may}
-use Rattle.reg_links.specs.declared.link.Link.{Link}
-use Rattle.reg_links.specs.Links.{links_in}
-use Rattle.reg_links.specs.Passing.{PassesOn, IsNotPassedOn}
+use Rattle.reg_disorder.specs.declared.linking.link.Link.{Link}
+use Rattle.reg_disorder.specs.Links.{links_in}
+use Rattle.reg_disorder.specs.Passing.{PassesOn, IsNotPassedOn}
 use Rattle.reg_desk.specs.ImportLinks.{ImportsLinked, IsUnlinked}
 use Rattle.reg_desk.specs.Import.{IsUnmadeOf}
 use Rattle.reg_desk.proofs.ImportEngineLemmas.{plain_is}

@@ -21,7 +21,7 @@ use Rattle.reg_import.specs.Listed.{HasListed}
 use Rattle.reg_import.proofs.FrontLemmas.{get_front, first_on}
 use Rattle.reg_import.proofs.TakingLemmas.{taken_steps, taken_may}
 use Rattle.reg_engine.specs.declared.fault.CliFault.TheVariants as cli
-use Rattle.reg_links.specs.declared.link.Link.{Link}
+use Rattle.reg_disorder.specs.declared.linking.link.Link.{Link}
 use Rattle.reg_desk.specs.declared.import.options.ImportOptions.{ImportOptions}
 use Rattle.reg_desk.specs.declared.import.fault.ImportFault.{ImportFault}
 use Rattle.reg_desk.specs.declared.import.fault.ImportFault.TheVariants as import

@@ -4,7 +4,7 @@ use Rattle.std.proofs.lemmas.List.{append_cancel_left}
 use Rattle.crs_part.specs.declared.text.Text.{Text}
 use Rattle.crs_part.proofs.Texts.{same_text}
 use Rattle.crs_value.specs.declared.key.Key.{Key}
-use Rattle.wkt_texts.proofs.OneCut.{one_cut}
+use Rattle.wkt_compare.proofs.OneCut.{one_cut}
 use Rattle.byte_io.specs.Device.{SourceState}
 use Rattle.reg_report.specs.Conflicts.{KeyBytes, bytes_of}
 use Rattle.reg_import.specs.declared.reading.FileText.{FileText}

@@ -9,7 +9,7 @@ use Rattle.reg_engine.specs.declared.fault.Refusal.TheVariants as refusal
 use Rattle.reg_engine.specs.declared.fault.CliFault.{CliFault}
 use Rattle.reg_engine.specs.declared.fault.CliFault.TheVariants as cli
 use Rattle.reg_engine.specs.Fault.{office_fault}
-use Rattle.reg_links.specs.Retiring.{CannotRetireFor}
+use Rattle.reg_disorder.specs.Retiring.{CannotRetireFor}
 use Rattle.reg_desk.specs.Settle.{IsUnretired}
 
 -- ---- retiring

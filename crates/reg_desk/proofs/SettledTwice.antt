@@ -20,10 +20,10 @@ use Rattle.reg_office.specs.Commands.{retirements}
 use Rattle.reg_report.proofs.ConflictLemmas.{in_head}
 use Rattle.reg_report.proofs.EntryLemmas.{row_is_entered, row_of_entry}
 use Rattle.reg_report.proofs.PairLemmas.{it_enters}
-use Rattle.reg_settle.specs.Doubles.{HasLesser, IsDouble, AreDoubles}
-use Rattle.reg_settle.proofs.Settled.{picked_are}
+use Rattle.reg_disorder.specs.Doubles.{HasLesser, IsDouble, AreDoubles}
+use Rattle.reg_disorder.proofs.Settled.{picked_are}
 use Rattle.reg_report.proofs.RowLemmas.{row_status, row_enters}
-use Rattle.reg_links.proofs.Rows.{one_row, of_filter, stands_if, none_retires, join_retires, join_enters}
+use Rattle.reg_disorder.proofs.Rows.{one_row, of_filter, stands_if, none_retires, join_retires, join_enters}
 use Rattle.reg_desk.proofs.AfterRetiring.{is_listed, Leaves}
 
 -- ---- a join

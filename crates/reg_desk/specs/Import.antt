@@ -25,8 +25,8 @@ use Rattle.reg_import.specs.Plans.{IsFirstRefused, IsImportRefusal}
 use Rattle.reg_import.specs.declared.listing.Listing.{Listing}
 use Rattle.reg_import.specs.Listing.{IsListing}
 use Rattle.reg_engine.specs.declared.fault.Refusal.TheVariants as refusal
-use Rattle.reg_links.specs.declared.link.Link.{Link}
-use Rattle.reg_links.specs.Rows.{HaveRows}
+use Rattle.reg_disorder.specs.declared.linking.link.Link.{Link}
+use Rattle.reg_disorder.specs.Rows.{HaveRows}
 use Rattle.reg_engine.specs.Fault.{status_of, office_fault}
 use Rattle.reg_engine.specs.Store.{Admission, AsLoaded, Screened, WorksOn}
 use Rattle.reg_engine.specs.declared.fault.CliFault.{CliFault}

@@ -8,9 +8,9 @@ use Rattle.reg_import.specs.declared.reading.ReadText.{ReadText}
 use Rattle.reg_import.specs.declared.action.TextAction.{TextAction}
 use Rattle.reg_import.specs.declared.import.ImportRefusal.TheVariants as refused
 use Rattle.reg_import.specs.Plans.{MayRunOut, Imports, IsImportRefusal}
-use Rattle.reg_links.specs.declared.link.Link.{Link}
-use Rattle.reg_links.specs.Links.{links_in}
-use Rattle.reg_links.specs.Passing.{PassesOn, IsNotPassedOn}
+use Rattle.reg_disorder.specs.declared.linking.link.Link.{Link}
+use Rattle.reg_disorder.specs.Links.{links_in}
+use Rattle.reg_disorder.specs.Passing.{PassesOn, IsNotPassedOn}
 use Rattle.reg_desk.specs.declared.import.options.ImportOptions.{ImportOptions}
 
 -- the texts are imported, and then the links pass on

@@ -2,7 +2,7 @@
 use Rattle.std.specs.Prelude.{◌≡◌, ◌+◌, ◌^◌, ◌≤◌, ℕ, Bool, true, false, not, ◌&&◌, List, [], ◌∷◌, ◌++◌, map, length, slice_get, Option, Some, None}
 use Rattle.std.specs.List.{list_any}
 use Rattle.wkt_tree.specs.Tree.{Piece}
-use Rattle.wkt_texts.specs.Texts.{IsCutInto}
+use Rattle.wkt_compare.specs.Texts.{IsCutInto}
 use Rattle.reg_op.specs.Contents.{Content}
 use Rattle.reg_import.specs.declared.reading.FileText.{FileText}
 use Rattle.reg_import.specs.declared.action.TextAction.{TextAction}

@@ -2,7 +2,7 @@
 use Rattle.std.specs.Prelude.{◌≡◌, ◌⊎◌, ◌+◌, ◌++◌, ℕ, Bool, true, false, List, [], ◌∷◌, map}
 use Rattle.std.specs.List.{list_any}
 use Rattle.wkt_tree.specs.Tree.{Piece}
-use Rattle.wkt_texts.specs.Texts.{IsCutInto}
+use Rattle.wkt_compare.specs.Texts.{IsCutInto}
 use Rattle.reg_import.specs.declared.reading.FileText.{FileText}
 use Rattle.reg_import.specs.Readings.{IsFileText, is_unread, readings}
 use Rattle.reg_desk.specs.declared.import.texts.FileCut.{FileCut}

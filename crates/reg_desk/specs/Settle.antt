@@ -5,17 +5,17 @@ use Rattle.reg_op.specs.Contents.{Content}
 use Rattle.reg_op.specs.Rows.{rows}
 use Rattle.reg_office.specs.declared.fault.OfficeFault.{OfficeFault}
 use Rattle.reg_office.specs.declared.fault.OfficeFault.TheVariants as office
-use Rattle.reg_settle.specs.declared.fault.SettleFault.{SettleFault}
-use Rattle.reg_settle.specs.declared.fault.SettleFault.TheVariants as settle
-use Rattle.reg_settle.specs.Settling.{IsSettled, IsUnsettled}
-use Rattle.reg_settle.specs.Doubles.{AreDoubles}
+use Rattle.reg_disorder.specs.declared.settling.fault.SettleFault.{SettleFault}
+use Rattle.reg_disorder.specs.declared.settling.fault.SettleFault.TheVariants as settle
+use Rattle.reg_disorder.specs.Settling.{IsSettled, IsUnsettled}
+use Rattle.reg_disorder.specs.Doubles.{AreDoubles}
 use Rattle.reg_engine.specs.declared.fault.Refusal.{Refusal}
 use Rattle.reg_engine.specs.declared.fault.Refusal.TheVariants as refusal
 use Rattle.reg_engine.specs.declared.fault.CliFault.{CliFault}
 use Rattle.reg_engine.specs.declared.fault.CliFault.TheVariants as cli
 use Rattle.reg_engine.specs.Fault.{office_fault}
 use Rattle.reg_engine.specs.Outputs.{id_lines}
-use Rattle.reg_links.specs.Retiring.{RetiresFor, CannotRetireFor}
+use Rattle.reg_disorder.specs.Retiring.{RetiresFor, CannotRetireFor}
 
 -- the fault of an entry that cannot be kept
 abbrev pub settle_fault : SettleFault → CliFault

@@ -1,7 +1,7 @@
 //! The command `diff`.
 
 ghost use Rattle.std.specs.Prelude.{◌≡◌, ◌↔◌, ◌∷◌, [], map, IsTrue, Ok, IfOk, IfErr};
-ghost use Rattle.reg_join.specs.Joining.{all_joined};
+ghost use Rattle.reg_op.specs.Joining.{all_joined};
 ghost use Rattle.reg_op.specs.Contents.{nothing, joined};
 ghost use Rattle.reg_report.specs.Reports.{Reports};
 ghost use Rattle.reg_query.specs.DiffLines.{IsDiff, Differ};

@@ -32,7 +32,7 @@ pub use status::run_status;
 pub use byte_disk::FileDisk;
 pub use byte_io::{Reading, Source, Writing};
 pub use byte_out::{InputOf, Lockable};
-pub use crs_search::{Kind, Point};
+pub use crs_value::search::{Kind, Point};
 pub use reg_commands::{
     ByWord, Enter, Form, Report, run_check, run_enter, run_enter_on, run_export, run_merge,
     run_merge_on, run_new, run_ops, run_piece, run_report, run_retire, run_retire_on, run_seen,

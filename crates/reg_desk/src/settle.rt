@@ -5,14 +5,14 @@ ghost use Rattle.reg_op.specs.Ids.{Id};
 ghost use Rattle.reg_office.specs.declared.fault.OfficeFault.{OfficeFault as OneFault};
 ghost use Rattle.reg_engine.specs.Fault.{office_fault};
 ghost use Rattle.reg_engine.specs.Outputs.{id_lines};
-ghost use Rattle.reg_links.specs.Retiring.{RetiresFor, CannotRetireFor};
+ghost use Rattle.reg_disorder.specs.Retiring.{RetiresFor, CannotRetireFor};
 ghost use Rattle.reg_desk.specs.Settle.{SettlesFor, CannotKeep, SettlesEqual, NeverRefuses, Retires, IsUnretired, settle_fault};
 
+use reg_disorder::linking::{Retired, retire_for_heirs};
+use reg_disorder::settling::{SettleFault, doubles, to_retire};
 use reg_engine::{Change, CliFault, Made, Refusal, id_lines};
-use reg_links::{Retired, retire_for_heirs};
 use reg_office::OfficeFault;
 use reg_op::{Note, OpId};
-use reg_settle::{SettleFault, doubles, to_retire};
 use reg_state::Register;
 use std::alloc::Global;
 use uuid::Uuid;

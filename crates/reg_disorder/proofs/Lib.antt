@@ -5,3 +5,16 @@ mod KeyLemmas
 mod LinkLemmas
 mod HeirLemmas
 mod AmissLemmas
+mod Firsts
+pub mod Inheriting
+pub mod Allowed
+mod Listed
+mod ForHeirs
+pub mod Rows
+pub mod Passes
+mod OldRows
+mod Steps
+pub mod Settled
+mod Candidates
+mod Kept
+mod Repeated

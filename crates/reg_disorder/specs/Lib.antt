@@ -4,3 +4,14 @@ pub mod Texts
 pub mod Keys
 pub mod Heirs
 pub mod Reports
+pub mod Links
+pub mod LinkHeirs
+pub mod Passing
+pub mod Law
+pub mod Retiring
+pub mod Rows
+pub mod Settling
+pub mod Doubles
+pub mod Names
+pub mod Keeping
+pub mod SettledTexts

@@ -9,8 +9,10 @@ mod heir;
 pub mod laws;
 mod lines;
 mod link;
+pub mod linking;
 mod listed;
 mod listing;
+pub mod settling;
 mod standing;
 mod withdrawn;
 

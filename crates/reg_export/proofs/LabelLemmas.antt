@@ -2,7 +2,7 @@
 use Rattle.std.proofs.Common.{◌≡◌, ℕ, Bool, true, false, List, [], if◌then◌else◌, refl, ap}
 use Rattle.std.specs.Str.{bytes_eq}
 use Rattle.std.proofs.lemmas.Slice.Eq.{bytes_eq-Decides}
-use Rattle.office_names.specs.Shown.{shown}
+use Rattle.csv_table.specs.Shown.{shown}
 use Rattle.crs_export.specs.Graphs.{caption}
 use Rattle.reg_op.specs.Ids.{Id}
 use Rattle.reg_op.specs.Operations.{Ops}

@@ -3,12 +3,12 @@ use Rattle.std.proofs.Common.{◌≡◌, ℕ, Bool, true, false, List, [], ◌�
 use Rattle.std.specs.List.{flat_map, list_all}
 use Rattle.std.specs.Str.{bytes_eq}
 use Rattle.json.specs.Json.{document}
-use Rattle.office_names.specs.declared.names.Name.{Name}
+use Rattle.csv_table.specs.declared.offices.names.Name.{Name}
 use Rattle.crs_export.specs.SqlStatements as sql_text
 use Rattle.crs_export.specs.DotStatements as graph_text
 use Rattle.crs_value.specs.declared.crs.Crs.{Crs}
 use Rattle.crs_part.specs.declared.crs.CrsParts.{CrsParts}
-use Rattle.crs_search.specs.Usages.{usages_of}
+use Rattle.crs_value.specs.Usages.{usages_of}
 use Rattle.crs_export.specs.declared.title.Title.{Title}
 use Rattle.crs_export.specs.declared.filed.Filed.{Filed}
 use Rattle.crs_export.specs.declared.table.Table.{Table}

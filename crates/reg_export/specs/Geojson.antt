@@ -1,7 +1,7 @@
 -- Rows as a collection of features.
 use Rattle.std.specs.Prelude.{◌≡◌, ℕ, List, [], ◌∷◌}
 use Rattle.crs_value.specs.declared.crs.Crs.{Crs}
-use Rattle.crs_search.specs.Usages.{usages_of}
+use Rattle.crs_value.specs.Usages.{usages_of}
 use Rattle.wkt_crs.specs.Definition.{IsCrsOf}
 use Rattle.reg_op.specs.Rows.{Row}
 use Rattle.crs_export.specs.declared.title.Title.{Title}

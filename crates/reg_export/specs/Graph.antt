@@ -2,8 +2,8 @@
 use Rattle.std.specs.Prelude.{◌≡◌, ◌⊎◌, ◌++◌, ℕ, Bool, true, false, List, [], ◌∷◌, map, Contains, Option, Some, None, if◌then◌else◌}
 use Rattle.std.specs.List.{flat_map}
 use Rattle.std.specs.Str.{bytes_eq}
-use Rattle.office_names.specs.declared.names.Name.{Name}
-use Rattle.office_names.specs.Shown.{shown}
+use Rattle.csv_table.specs.declared.offices.names.Name.{Name}
+use Rattle.csv_table.specs.Shown.{shown}
 use Rattle.reg_op.specs.Contents.{Content}
 use Rattle.reg_op.specs.Ids.{Id}
 use Rattle.reg_op.specs.Set as set

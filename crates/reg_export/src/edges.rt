@@ -6,7 +6,7 @@ ghost use Rattle.crs_export.specs.Graphs.{edge};
 ghost use Rattle.reg_export.specs.Graph.{label_for, label_of, edge_of};
 
 use crs_export::{push_caption, push_edge};
-use office_names::{Name, named};
+use csv_table::offices::{Name, named};
 use reg_op::OpId;
 use reg_report::{is_entered, printed};
 use reg_state::Register;

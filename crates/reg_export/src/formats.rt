@@ -15,7 +15,7 @@ use crate::graph::graph_text;
 use crate::keep::pass;
 use crate::proj_sql::proj_sql_text;
 use byte_io::{Sink, write_all};
-use office_names::Name;
+use csv_table::offices::Name;
 use reg_engine::{CliFault, OutFault, Print, Store};
 use reg_op::OpId;
 use reg_report::Row;

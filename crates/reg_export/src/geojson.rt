@@ -10,8 +10,8 @@ ghost use Rattle.reg_export.specs.Kept.{row_at};
 
 use crate::title::title_of;
 use crs_export::{collection_text, push_features};
-use crs_search::usages_of;
 use crs_value::Crs;
+use crs_value::search::usages_of;
 use reg_report::{Row, printed};
 use std::alloc::{AllocError, Global};
 

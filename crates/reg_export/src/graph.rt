@@ -18,7 +18,7 @@ use crate::edges::push_edge_of;
 use crate::title::title_of;
 use crs_export::markup::{GRAPH_END, GRAPH_START, RETIRED_COLOR, SUPERSEDED_COLOR, VALID_COLOR};
 use crs_export::{push_node, push_rivals};
-use office_names::Name;
+use csv_table::offices::Name;
 use reg_op::{Op, OpBody, OpId, Status};
 use reg_report::{Conflict, Row, conflicts, is_among, is_entered, printed, rows};
 use reg_state::Register;

@@ -10,7 +10,7 @@ ghost use Rattle.crs_export.specs.DotStatements as graph_text;
 ghost use Rattle.crs_export.specs.declared.filed.Filed.{Filed};
 ghost use Rattle.crs_export.specs.Document.{Described, collection_value};
 ghost use Rattle.crs_export.specs.Inserts.{Statement, AreInserts, transaction};
-ghost use Rattle.office_names.specs.declared.names.Name.{Name};
+ghost use Rattle.csv_table.specs.declared.offices.names.Name.{Name};
 ghost use Rattle.reg_op.specs.Contents.{Content};
 ghost use Rattle.reg_op.specs.Ids.{Id};
 ghost use Rattle.reg_op.specs.Operations.{Ops};
@@ -27,7 +27,7 @@ ghost use Rattle.reg_texts.specs.KeySheet.{IsKeySheet};
 ghost use Rattle.reg_export.specs.Graph.{label_of, AreGraphStatements, IsGraph};
 
 use csv_table::laws::rows_are_read;
-use office_names::laws::nothing_is_named;
+use csv_table::offices::laws::nothing_is_named;
 
 /// Authority and code can be read from the name.
 pub fn names_are_read_back()

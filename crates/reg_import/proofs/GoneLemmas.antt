@@ -6,7 +6,7 @@ use Rattle.std.specs.Ordering.{is_eq}
 use Rattle.std.proofs.lemmas.Bool.{true≢false}
 use Rattle.std.proofs.lemmas.List.{map-append}
 use Rattle.std.proofs.lemmas.List.Elements.{Contains-append_cases, Contains-append_left, Contains-append_right}
-use Rattle.crs_search.specs.Parts.{IsAlike}
+use Rattle.crs_value.specs.Parts.{IsAlike}
 use Rattle.reg_op.specs.Rows.{Row as RowOf}
 use Rattle.reg_report.specs.declared.row.Row.{Row}
 use Rattle.reg_report.specs.Conflicts.{KeyBytes, bytes_of, key_cmp, HasKey}

@@ -14,10 +14,10 @@ use Rattle.wkt_crs.specs.declared.definition.DefinitionFault.TheVariants as faul
 use Rattle.wkt_crs.proofs.Texts.{one_value}
 use Rattle.wkt_crs.proofs.Defining.{spelled_by_definition, not_memory}
 use Rattle.wkt_crs.proofs.Verdicts.{value_or_fault}
-use Rattle.wkt_texts.specs.Texts.{IsCutInto}
-use Rattle.wkt_texts.specs.Printed.{IsCanonical, printed, AreFound}
-use Rattle.wkt_texts.proofs.OneCut.{one_cut}
-use Rattle.wkt_texts.proofs.Found.{printed_found}
+use Rattle.wkt_compare.specs.Texts.{IsCutInto}
+use Rattle.wkt_compare.specs.Printed.{IsCanonical, printed, AreFound}
+use Rattle.wkt_compare.proofs.OneCut.{one_cut}
+use Rattle.wkt_compare.proofs.Found.{printed_found}
 use Rattle.reg_op.specs.Set as set
 use Rattle.reg_op.specs.Set.{contains, contains-empty}
 use Rattle.reg_op.specs.Kept.{entering}

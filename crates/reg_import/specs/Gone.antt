@@ -1,7 +1,7 @@
 -- Entries of an authority whose keys no text has.
 use Rattle.std.specs.Prelude.{◌≡◌, ◌⊎◌, ◌↔◌, ℕ, true, IsTrue, List, [], ◌∷◌, Contains}
 use Rattle.std.specs.BTreeSet.{BTreeSet, contains}
-use Rattle.crs_search.specs.Parts.{IsAlike}
+use Rattle.crs_value.specs.Parts.{IsAlike}
 use Rattle.reg_op.specs.Rows.{Row}
 use Rattle.reg_report.specs.Conflicts.{KeyBytes, HasKey}
 use Rattle.reg_import.specs.declared.indexed_key.IndexedKey.{IndexedKey}

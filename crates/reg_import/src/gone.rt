@@ -10,7 +10,7 @@ ghost use Rattle.reg_import.specs.Gone.{HasKeys, IsGone, AreGone};
 use crate::indexed_key::IndexedKey;
 use crate::reading::ReadText;
 use crate::standing_entry::stands;
-use crs_search::is_alike;
+use crs_value::search::is_alike;
 use reg_report::{Row, rows};
 use reg_state::Register;
 use std::alloc::{AllocError, Global};

@@ -2,8 +2,8 @@
 
 ghost use Rattle.std.specs.Prelude.{◌≡◌, ◌⊎◌, ◌↔◌, ℕ, Bool, List, Contains, map};
 ghost use Rattle.wkt_tree.specs.Tree.{Piece};
-ghost use Rattle.wkt_texts.specs.Texts.{IsCutInto};
-ghost use Rattle.wkt_texts.specs.Printed.{AreFound};
+ghost use Rattle.wkt_compare.specs.Texts.{IsCutInto};
+ghost use Rattle.wkt_compare.specs.Printed.{AreFound};
 ghost use Rattle.reg_op.specs.Contents.{Content, IsContent, nothing};
 ghost use Rattle.reg_op.specs.Rows.{Row};
 ghost use Rattle.reg_report.specs.Conflicts.{KeyBytes};

@@ -10,7 +10,7 @@ use Rattle.std.specs.Ordering.{nat_cmp, is_eq}
 use Rattle.std.specs.Global.{Vec}
 use Rattle.std.specs.BTreeMap.{BTreeMap, get}
 use Rattle.std.specs.Map.{lookup}
-use Rattle.crs_search.specs.Parts.{lower}
+use Rattle.crs_value.specs.Parts.{lower}
 use Rattle.std.specs.Char.{to_ascii_lowercase}
 use Rattle.reg_op.specs.Set.{Ascends}
 use Rattle.reg_op.specs.Ids.{Id}

@@ -3,7 +3,7 @@ use Rattle.std.proofs.Common.{◌≡◌, ◌↔◌, ℕ, ◌<◌, ◌++◌, Bool
 use Rattle.std.proofs.lemmas.Bool.{true≢false}
 use Rattle.std.proofs.lemmas.List.{take-append-drop, take_at, drop_at, append_cancel_left, length-map}
 use Rattle.std.specs.Char.{to_ascii_lowercase}
-use Rattle.crs_search.specs.Parts.{IsAlike}
+use Rattle.crs_value.specs.Parts.{IsAlike}
 
 -- texts that are equal but for the case of letters A to Z have equal lengths
 alike_long : (a b : List ℕ) → IsAlike a b → length a ≡ length b

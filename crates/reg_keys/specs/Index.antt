@@ -5,7 +5,7 @@ use Rattle.std.specs.declared.cmp.Ordering.{Ordering}
 use Rattle.std.specs.Ordering.{nat_cmp}
 use Rattle.std.specs.Cmp.Lexicographic.{slice_cmp}
 use Rattle.std.specs.BTreeMap.{BTreeMap, get}
-use Rattle.crs_search.specs.Parts.{lower}
+use Rattle.crs_value.specs.Parts.{lower}
 use Rattle.reg_op.specs.Rows.{Row}
 use Rattle.reg_op.specs.Set.{Ascends}
 use Rattle.reg_report.specs.declared.row.Row.{Row as MadeRow}

@@ -1,6 +1,6 @@
 -- Words that name keys.
 use Rattle.std.specs.Prelude.{◌≡◌, ◌++◌, ◌∷◌, ℕ, List}
-use Rattle.crs_search.specs.Parts.{IsAlike}
+use Rattle.crs_value.specs.Parts.{IsAlike}
 use Rattle.reg_report.specs.Conflicts.{KeyBytes}
 
 -- the word is the key: its authority, where letters A to Z match in either case, a colon, and its code

@@ -3,7 +3,7 @@
 ghost use Rattle.std.specs.Prelude.{◌≡◌, ◌++◌, ◌∷◌, [], List, map, cond, None, IfOk, OnOk};
 ghost use Rattle.std.specs.BTreeMap.{get};
 ghost use Rattle.std.specs.Ordering.{is_eq};
-ghost use Rattle.crs_search.specs.Parts.{lower};
+ghost use Rattle.crs_value.specs.Parts.{lower};
 ghost use Rattle.reg_op.specs.Rows.{Row as OneRow};
 ghost use Rattle.reg_op.specs.Set.{Ascends};
 ghost use Rattle.reg_report.specs.Conflicts.{bytes_of};

@@ -2,11 +2,11 @@
 
 ghost use Rattle.std.specs.Prelude.{◌≡◌, ◌↔◌, ◌++◌, ◌∷◌, ℕ, List, IsTrue};
 ghost use Rattle.reg_report.specs.Conflicts.{bytes_of};
-ghost use Rattle.crs_search.specs.Parts.{IsAlike};
+ghost use Rattle.crs_value.specs.Parts.{IsAlike};
 ghost use Rattle.reg_keys.specs.Words.{NamesKey};
 
-use crs_search::is_alike;
 use crs_value::Key;
+use crs_value::search::is_alike;
 
 /// Whether the word is the key: its authority, a colon, and its code. Letters A to Z of the authority match in either
 /// case.

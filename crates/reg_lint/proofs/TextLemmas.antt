@@ -1,8 +1,8 @@
 -- The texts of a file, one at a time.
 use Rattle.std.proofs.Common.{◌≡◌, ℕ, List, [], ◌∷◌, ◌++◌, map, refl, subst, sym, inl, inr}
 use Rattle.wkt_tree.specs.Tree.{Piece}
-use Rattle.wkt_texts.specs.declared.cutting.Cut.{Cut}
-use Rattle.wkt_texts.specs.Texts.{piece_of, IsCutInto}
+use Rattle.wkt_compare.specs.declared.splitting.cutting.Cut.{Cut}
+use Rattle.wkt_compare.specs.Texts.{piece_of, IsCutInto}
 use Rattle.reg_lint.specs.declared.kept.KeptSubject.{KeptSubject}
 use Rattle.reg_lint.specs.declared.texts.Unread.{Unread}
 use Rattle.reg_lint.specs.declared.texts.Unread.TheVariants as why

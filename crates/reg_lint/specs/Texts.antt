@@ -6,7 +6,7 @@ use Rattle.wkt_crs.specs.declared.fault.Unspelled.{Unspelled}
 use Rattle.wkt_crs.specs.Unspelled.{as_read}
 use Rattle.wkt_crs.specs.Spells.{Spells}
 use Rattle.wkt_crs.specs.Faults.{FirstFault}
-use Rattle.wkt_texts.specs.Texts.{IsCutInto}
+use Rattle.wkt_compare.specs.Texts.{IsCutInto}
 use Rattle.reg_lint.specs.declared.kept.KeptSubject.{KeptSubject}
 use Rattle.reg_lint.specs.Subjects.{Subject, IsKept}
 use Rattle.reg_lint.specs.declared.texts.Unread.{Unread}

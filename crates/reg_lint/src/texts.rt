@@ -2,7 +2,7 @@
 
 ghost use Rattle.std.specs.Prelude.{◌≡◌, ◌++◌, ◌∷◌, [], IfOk, IfErr, OnOk, map};
 ghost use Rattle.wkt_crs.specs.Spells.{Spells};
-ghost use Rattle.wkt_texts.specs.Texts.{piece_of};
+ghost use Rattle.wkt_compare.specs.Texts.{piece_of};
 ghost use Rattle.reg_lint.specs.declared.kept.KeptSubject.{KeptSubject as OneKept};
 ghost use Rattle.reg_lint.specs.Texts.{label_of, IsTextKept, AreTextsKept, AreKeptOf, IsUnread, IsFirstUnread, IsFileUnread, why_of};
 
@@ -10,8 +10,8 @@ use crate::kept::{KeptSubject, Room, form_of_text};
 use crs_value::Crs;
 use itoa::Buffer;
 use std::alloc::{AllocError, Global};
+use wkt_compare::splitting::{Cut, texts};
 use wkt_crs::{Unspelled, read_crs};
-use wkt_texts::{Cut, texts};
 
 /// Why the texts of a file are not looked at.
 #[derive(Clone, Copy, Debug, PartialEq, Eq)]

@@ -1,1 +1,3 @@
 mod KeyLemmas
+mod RisenLemmas
+mod TellingLemmas

@@ -1,2 +1,4 @@
 pub mod Keys
 pub mod News
+pub mod Hidden
+pub mod Watching

@@ -17,3 +17,4 @@ pub mod ItemLemmas
 pub use Rattle.wkt_crs.proofs.Defining
 pub use Rattle.wkt_crs.proofs.Texts
 pub use Rattle.wkt_crs.proofs.Verdicts
+pub mod Joins

@@ -14,3 +14,5 @@ pub mod Text
 pub use Rattle.wkt_crs.specs.Definition
 pub use Rattle.wkt_crs.specs.Unspelled
 pub use Rattle.wkt_crs.specs.declared.definition.DefinitionFault
+pub mod Joining
+pub mod JoinNames

@@ -2,6 +2,7 @@
 #![tactic(auto)]
 
 mod count;
+pub mod joining;
 pub mod laws;
 mod note;
 mod op_id;

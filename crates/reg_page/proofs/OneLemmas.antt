@@ -13,7 +13,7 @@ use Rattle.std.specs.Cmp.Lexicographic.{slice_cmp}
 use Rattle.std.specs.Ordering.{nat_cmp, ordering_then, is_lt, is_eq}
 use Rattle.std.specs.declared.cmp.Ordering.{Ordering}
 use Rattle.std.specs.declared.cmp.Ordering.TheVariants.{Less, Equal, Greater}
-use Rattle.office_names.specs.declared.names.Name.{Name}
+use Rattle.csv_table.specs.declared.offices.names.Name.{Name}
 use Rattle.html_page.specs.Pieces.{html}
 use Rattle.html_page.specs.Shown as shown
 use Rattle.html_page.specs.Templates.{page}
@@ -27,8 +27,8 @@ use Rattle.wkt_crs.specs.Spells.{Spells, pretty}
 use Rattle.wkt_crs.specs.Definition.{HasKey, IsKeyIn}
 use Rattle.wkt_crs.proofs.Texts.{one_value}
 use Rattle.crs_part.specs.Slots.{name_of}
-use Rattle.crs_search.specs.Kinds.{kind_of}
-use Rattle.crs_search.specs.Usages.{usages_of}
+use Rattle.crs_value.specs.Kinds.{kind_of}
+use Rattle.crs_value.specs.Usages.{usages_of}
 use Rattle.reg_op.specs.Set as set
 use Rattle.reg_op.specs.Set.{Ascends}
 use Rattle.reg_op.specs.Ids.{Id, id_cmp, is_same}

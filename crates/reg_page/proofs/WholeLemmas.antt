@@ -8,7 +8,7 @@ use Rattle.html_page.specs.declared.markup.TheConstants.{AFTER_FIGURES, CONFLICT
 use Rattle.html_page.specs.Templates.{head, figures, section, conflict, awaited as waiting, gap, entry, end, page}
 use Rattle.crs_sense.specs.declared.rule.Rule.{Rule}
 use Rattle.reg_page.proofs.LoopLemmas.{as_others}
-use Rattle.office_names.specs.declared.names.Name.{Name}
+use Rattle.csv_table.specs.declared.offices.names.Name.{Name}
 use Rattle.reg_op.specs.Set as set
 use Rattle.reg_op.specs.Ids.{Id}
 use Rattle.reg_op.specs.Operations.{Op}

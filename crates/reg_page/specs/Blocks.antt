@@ -6,7 +6,7 @@ use Rattle.html_page.specs.Pieces.{Piece, Markup, html, Appends}
 use Rattle.html_page.specs.Shown as shown
 use Rattle.html_page.specs.Templates.{conflict_start, pair, section, awaited, gap, entry, end}
 use Rattle.html_page.specs.declared.markup.TheConstants.{GAPS_START, GAPS_END}
-use Rattle.office_names.specs.declared.names.Name.{Name}
+use Rattle.csv_table.specs.declared.offices.names.Name.{Name}
 use Rattle.reg_op.specs.Operations.{Op, Ops}
 use Rattle.reg_op.specs.Text.{printed}
 use Rattle.reg_report.specs.declared.gap.Gap.{Gap}

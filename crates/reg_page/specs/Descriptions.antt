@@ -20,8 +20,8 @@ use Rattle.reg_page.specs.declared.described.DescribedSystem.{DescribedSystem}
 use Rattle.reg_page.specs.declared.described.Described.{Described}
 use Rattle.crs_sense.specs.declared.rule.Rule.{Rule}
 use Rattle.reg_lint.specs.Questions.{questions_of}
-use Rattle.crs_search.specs.Kinds.{kind_of}
-use Rattle.crs_search.specs.Usages.{usages_of}
+use Rattle.crs_value.specs.Kinds.{kind_of}
+use Rattle.crs_value.specs.Usages.{usages_of}
 use Rattle.reg_page.specs.Kinds.{areas_in}
 use Rattle.reg_page.specs.Boxes.{box_seen, boxes_in}
 use Rattle.reg_page.specs.Codes.{code_cmp}

@@ -3,8 +3,8 @@ use Rattle.std.specs.Prelude.{ℕ, List, [], ◌∷◌, codes, Option, Some, Non
 use Rattle.std.specs.List.{flat_map}
 use Rattle.crs_part.specs.declared.text.Text.{Text}
 use Rattle.crs_part.specs.declared.usages.Usage.{Usage}
-use Rattle.crs_search.specs.declared.kind.Kind.{Kind}
-use Rattle.crs_search.specs.declared.kind.Kind.TheVariants.{Geographic, Geodetic, Projected, Vertical, Compound}
+use Rattle.crs_value.specs.declared.search.kind.Kind.{Kind}
+use Rattle.crs_value.specs.declared.search.kind.Kind.TheVariants.{Geographic, Geodetic, Projected, Vertical, Compound}
 
 abbrev pub kind_word : Kind → List ℕ
 kind_word Geographic = codes "geographic"

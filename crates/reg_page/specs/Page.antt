@@ -3,8 +3,8 @@ use Rattle.std.specs.Prelude.{◌≡◌, ◌⊎◌, ℕ, Bool, true, false, not,
 use Rattle.std.specs.Global.{Vec}
 use Rattle.std.specs.List.{flat_map, count_by}
 use Rattle.uuid.specs.Text.{hyphenated_text, lower}
-use Rattle.office_names.specs.declared.names.Name.{Name}
-use Rattle.office_names.specs.Shown as office
+use Rattle.csv_table.specs.declared.offices.names.Name.{Name}
+use Rattle.csv_table.specs.Shown as office
 use Rattle.html_page.specs.Pieces.{html}
 use Rattle.html_page.specs.declared.head.PageFigures.{PageFigures}
 use Rattle.html_page.specs.declared.standing.Standing.{Standing}

@@ -1,12 +1,12 @@
 //! The bounding boxes of a reference system.
 
 ghost use Rattle.std.specs.Prelude.{◌≡◌, ◌++◌, [], map, IfOk, OnOk};
-ghost use Rattle.crs_search.specs.Usages.{usages_of};
+ghost use Rattle.crs_value.specs.Usages.{usages_of};
 ghost use Rattle.reg_page.specs.Boxes.{numeral, crosses, box_seen, box_of, box_in, boxes_in};
 
 use crs_number::Decimal;
 use crs_part::{BoundingBox, CrsParts};
-use crs_search::usages_of;
+use crs_value::search::usages_of;
 use std::alloc::{AllocError, Global};
 
 /// The edges of a box as numerals, and whether it crosses the meridian of 180 degrees.

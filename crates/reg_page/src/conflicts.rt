@@ -7,9 +7,9 @@ ghost use Rattle.reg_page.specs.Page.{side_of, named};
 
 use crate::described::Described;
 use crate::names::read_for_id;
+use csv_table::offices::Name;
 use html_page::markup::{AFTER_PAIR, AFTER_SIDE, PAIR};
 use html_page::{push_compared, push_conflict_start, push_mark, push_side_start};
-use office_names::Name;
 use reg_report::{Conflict, printed};
 use std::alloc::{AllocError, Global};
 

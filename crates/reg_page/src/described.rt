@@ -9,8 +9,8 @@ ghost use Rattle.reg_page.specs.Descriptions.{IsSystemOf, IsSystemIn, DescribesE
 use crate::boxes::{Edges, boxes_of};
 use crate::kind::{areas_of, kind_of};
 use crate::order::compare_codes;
-use crs_search::Kind;
 use crs_value::Crs;
+use crs_value::search::Kind;
 use reg_lint::{Rule, questions};
 use reg_op::{Op, OpBody, OpId};
 use reg_state::Register;

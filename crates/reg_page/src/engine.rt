@@ -7,7 +7,7 @@ ghost use Rattle.reg_page.specs.Writing.{IsUnpaged};
 
 use crate::page::print_page;
 use byte_io::Sink;
-use office_names::Name;
+use csv_table::offices::Name;
 use reg_engine::{CliFault, Store};
 use reg_lint::Rule;
 use std::alloc::Global;

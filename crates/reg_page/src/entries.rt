@@ -20,12 +20,12 @@ use crate::described::Described;
 use crate::kind::kind_word;
 use crate::links::push_link_to;
 use crate::names::read_for_id;
+use csv_table::offices::Name;
 use html_page::markup::{AFTER_BY, AFTER_ENTRY, AFTER_HISTORY, BY, RETIRED_BY, SUPERSEDED_BY};
 use html_page::{
     Standing, push_area, push_entry_id, push_entry_start, push_entry_text, push_map, push_mark,
     push_operation_id, push_operation_note, push_question, push_standing,
 };
-use office_names::Name;
 use reg_op::{Op, OpBody, OpId, Status};
 use reg_report::printed;
 use reg_state::Register;

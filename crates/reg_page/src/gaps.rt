@@ -7,7 +7,7 @@ ghost use Rattle.reg_page.specs.Blocks.{gap_pieces};
 ghost use Rattle.reg_page.specs.Page.{named};
 
 use crate::missing::push_gap;
-use office_names::Name;
+use csv_table::offices::Name;
 use reg_report::Gap;
 use reg_state::Run;
 use std::alloc::{AllocError, Global};

@@ -2,12 +2,12 @@
 
 ghost use Rattle.std.specs.Prelude.{◌≡◌, ◌++◌, ℕ, map, IfOk, OnOk};
 ghost use Rattle.std.specs.Global.{Vec};
-ghost use Rattle.crs_search.specs.Kinds.{kind_of};
-ghost use Rattle.crs_search.specs.Usages.{usages_of};
+ghost use Rattle.crs_value.specs.Kinds.{kind_of};
+ghost use Rattle.crs_value.specs.Usages.{usages_of};
 ghost use Rattle.reg_page.specs.Kinds.{kind_word, area_bytes, areas_in};
 
 use crs_part::{CrsParts, Text};
-use crs_search::{Kind, is_of_kind, usages_of};
+use crs_value::search::{Kind, is_of_kind, usages_of};
 use std::alloc::{AllocError, Global};
 
 /// The kind of a reference system.

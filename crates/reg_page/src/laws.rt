@@ -21,10 +21,10 @@ ghost use Rattle.reg_page.specs.Codes.{is_number, number_of, code_cmp};
 ghost use Rattle.reg_page.specs.Rows.{ShowsEntry, entry_cmp};
 ghost use Rattle.reg_page.specs.Pairs.{paired, contested, IsPaired};
 ghost use Rattle.reg_page.specs.Page.{named, IsShown, IsPage, IsSide};
-ghost use Rattle.office_names.specs.declared.names.Name.{Name};
+ghost use Rattle.csv_table.specs.declared.offices.names.Name.{Name};
 ghost use Rattle.std.specs.declared.cmp.Ordering.TheVariants.{Less};
 
-use office_names::laws::nothing_is_named;
+use csv_table::offices::laws::nothing_is_named;
 
 /// A register has one page with a title and names of offices. So registers with the same operations and seen ids have the same page,
 /// and both orders of a merge do.

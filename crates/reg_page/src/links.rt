@@ -10,8 +10,8 @@ ghost use Rattle.reg_page.specs.Page.{described_at, link_to, named};
 
 use crate::described::Described;
 use crate::names::read_for_id;
+use csv_table::offices::Name;
 use html_page::{push_awaited_link, push_link};
-use office_names::Name;
 use reg_op::OpId;
 use reg_report::printed;
 use std::alloc::{AllocError, Global};

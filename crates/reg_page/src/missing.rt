@@ -12,9 +12,9 @@ ghost use Rattle.reg_page.specs.Page.{gap_of, named};
 
 use crate::block::Block;
 use crate::names::{read_for_id, read_for_office};
+use csv_table::offices::Name;
 use html_page::markup::{AWAITED_END, AWAITED_START};
 use html_page::{push_awaited, push_gap_counts, push_gap_start};
-use office_names::Name;
 use reg_op::OpId;
 use reg_report::Gap;
 use std::alloc::{AllocError, Global};

@@ -5,7 +5,7 @@ ghost use Rattle.uuid.specs.Text.{hyphenated_text, lower};
 ghost use Rattle.reg_op.specs.Text.{printed};
 ghost use Rattle.reg_page.specs.Page.{named};
 
-use office_names::{Name, named};
+use csv_table::offices::{Name, named};
 use reg_op::OpId;
 use reg_report::printed;
 use std::alloc::{AllocError, Global};

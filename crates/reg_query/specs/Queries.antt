@@ -2,9 +2,9 @@
 use Rattle.std.specs.Prelude.{◌≡◌, ◌≢◌, ◌⊎◌, ◌↔◌, ℕ, nat_eq, Bool, false, IsTrue, List, ◌||◌, is_some, IfSome, Option, Some}
 use Rattle.std.specs.List.{Any, list_any}
 use Rattle.crs_part.specs.declared.crs.CrsParts.{CrsParts}
-use Rattle.crs_search.specs.Kinds.{kind_of}
-use Rattle.crs_search.specs.Parts.{IsAlike, HasPart}
-use Rattle.crs_search.specs.Usages.{IsInArea, HasPoint}
+use Rattle.crs_value.specs.Kinds.{kind_of}
+use Rattle.crs_value.specs.Parts.{IsAlike, HasPart}
+use Rattle.crs_value.specs.Usages.{IsInArea, HasPoint}
 use Rattle.reg_keys.specs.Named.{HasWord}
 use Rattle.reg_keys.specs.Words.{NamesKey}
 use Rattle.reg_op.specs.Rows.{Row}

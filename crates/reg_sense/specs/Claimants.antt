@@ -4,7 +4,7 @@ use Rattle.std.specs.Global.{Vec}
 use Rattle.std.specs.Option.{option_or}
 use Rattle.std.specs.Str.{bytes_eq}
 use Rattle.crs_said.specs.Claims.{Said, claim_seen}
-use Rattle.text_short.specs.Short.{short}
+use Rattle.text_hidden.specs.Short.{short}
 use Rattle.reg_sense.specs.declared.claimant.Claimant.{Claimant}
 
 pub record Voice : Type 0 where

@@ -4,7 +4,7 @@ use Rattle.std.specs.Borrow.{Bor}
 use Rattle.std.specs.BTreeMap.{BTreeMap, get}
 use Rattle.std.specs.List.{list_any}
 use Rattle.crs_said.specs.Claims.{Said}
-use Rattle.text_short.specs.Short.{short}
+use Rattle.text_hidden.specs.Short.{short}
 use Rattle.reg_sense.specs.declared.claimant.Claimant.{Claimant}
 use Rattle.reg_sense.specs.Claimants.{Voice, voice, key_text, is_about, first_told}
 use Rattle.reg_sense.specs.Keys.{is_before, has_same_key}

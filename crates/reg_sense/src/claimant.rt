@@ -5,7 +5,7 @@ ghost use Rattle.reg_sense.specs.Claimants.{voice, key_text};
 
 use crs_said::Claim;
 use std::alloc::{AllocError, Global};
-use text_short::push_short;
+use text_hidden::push_short;
 
 /// A reference system with its key, its name, and what it claims.
 #[derive(Drop)]

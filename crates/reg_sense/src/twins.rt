@@ -14,7 +14,7 @@ use crate::keys::{has_same_key, is_before};
 use crs_said::Claim;
 use std::alloc::{AllocError, Global};
 use std::collections::BTreeMap;
-use text_short::push_short;
+use text_hidden::push_short;
 
 fn lesser<'a>(claimant: &'a Claimant, before: Option<&&'a Claimant>) -> &'a Claimant
     ensures { voice result.now ≡ lesser is_before (voice claimant.now) (voice_in (option_copied before.entry)) }

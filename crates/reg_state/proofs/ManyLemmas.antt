@@ -11,7 +11,7 @@ use Rattle.reg_op.proofs.ContentLemmas.{kept_is_within, OneBody-within, union_le
 use Rattle.reg_op.specs.Lists.{ById}
 use Rattle.reg_op.proofs.JoinLemmas.{joined_ok}
 use Rattle.reg_op.proofs.ClashLemmas.{items_are}
-use Rattle.reg_join.specs.Joining.{all_joined}
+use Rattle.reg_op.specs.Joining.{all_joined}
 use Rattle.reg_state.specs.ManyLaws.{all_ops, all_seen, all_of, merged_all}
 
 -- joining a list of contents to a content adds their operations and seen ids, if no id has two bodies

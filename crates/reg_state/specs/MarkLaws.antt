@@ -12,7 +12,7 @@ use Rattle.reg_op.specs.Set.{IsAntisymmetric, contains, union, same_set, contain
 use Rattle.reg_op.specs.Ids.{Id, id_cmp}
 use Rattle.reg_op.proofs.FiniteLemmas.{union_comm, union_assoc, union_again, union_itself, union-empty, topmost-union, topmost-topmost, contains-topmost}
 use Rattle.reg_op.proofs.OpLemmas.{id_total, id_exact, is_same_chain, is_before_chain, not_before_itself, both_equal}
-use Rattle.reg_join.specs.Joining.{JoinLaws}
+use Rattle.reg_op.specs.Joining.{JoinLaws}
 use Rattle.reg_state.specs.declared.mark.Mark.{Mark}
 use Rattle.reg_state.specs.declared.mark.MarkTarget.{MarkTarget}
 use Rattle.reg_state.specs.MarkSets.{target_cmp, mark_cmp, is_at, MarkSet, lessens_by, lessens, least, AreLeast}

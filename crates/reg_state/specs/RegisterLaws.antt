@@ -8,7 +8,7 @@ use Rattle.reg_op.proofs.OpLemmas.{op_total, op_exact}
 use Rattle.reg_op.proofs.FiniteLemmas.{union_comm, union_itself, union-empty}
 use Rattle.reg_op.proofs.ContentLemmas.{contains_op-union, kept_is_within, union_left, union_right, merged_comm, merged_assoc, merged_again, joined_comm, joined_content, joined_itself, joined_nothing, nothing_is_content}
 use Rattle.reg_op.proofs.JoinLemmas.{joined_ok, joined_is_content}
-use Rattle.reg_join.specs.Joining.{JoinLaws}
+use Rattle.reg_op.specs.Joining.{JoinLaws}
 
 agreed_nothing : (x : Content) → Agreed x x → Agreed nothing x
 agreed_nothing x a = subst OneBody (λ k. (union_itself op_total op_exact x.ops ∙ sym (union-empty op_total op_exact x.ops)) k) a

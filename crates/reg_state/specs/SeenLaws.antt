@@ -5,7 +5,7 @@ use Rattle.reg_op.specs.Set as set
 use Rattle.reg_op.specs.Ids.{Ids}
 use Rattle.reg_op.proofs.FiniteLemmas.{union_comm, union_assoc, union_again, union_itself, union-empty}
 use Rattle.reg_op.proofs.OpLemmas.{id_total, id_exact}
-use Rattle.reg_join.specs.Joining.{JoinLaws}
+use Rattle.reg_op.specs.Joining.{JoinLaws}
 use Rattle.std.specs.declared.convert.Infallible.{Infallible}
 
 abbrev pub united : Ids → Ids → Result Ids Infallible

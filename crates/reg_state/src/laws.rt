@@ -5,7 +5,7 @@ ghost use Rattle.reg_op.specs.Set as set;
 ghost use Rattle.reg_op.specs.Operations.{Op, Ops, OneBody, op_cmp};
 ghost use Rattle.reg_op.specs.Contents.{Content, state, nothing, joined};
 ghost use Rattle.reg_op.specs.Lists.{ById};
-ghost use Rattle.reg_join.specs.Joining.{all_joined};
+ghost use Rattle.reg_op.specs.Joining.{all_joined};
 ghost use Rattle.reg_state.specs.declared.run.Run.{Run};
 ghost use Rattle.reg_state.specs.Runs.{AreRuns, seen_of};
 ghost use Rattle.reg_state.specs.ManyLaws.{all_ops, all_of, merged_all};

@@ -19,7 +19,7 @@ mod view;
 pub use mark::{Mark, MarkTarget};
 pub use mark_set::Marks;
 pub use piece::{Piece, PieceFault};
-pub use reg_join::{Join, JoinFault, join_all};
+pub use reg_op::joining::{Join, JoinFault, join_all};
 pub use register::{ContentFault, Register, TakeFault};
 pub use run::Run;
 pub use seen::Seen;

@@ -12,8 +12,8 @@ ghost use Rattle.reg_state.specs.MarkSets.{mark_cmp, firsts, has, covers, is_at,
 ghost use Rattle.reg_state.specs.MarkLaws.{joined_marks, merged_marks, AlwaysAgree, marks_laws};
 
 use crate::mark::{Mark, MarkTarget, comes_first, covers, is_at, is_below};
-use reg_join::{Join, JoinFault};
 use reg_op::OpId;
+use reg_op::joining::{Join, JoinFault};
 use std::alloc::{AllocError, Global};
 use std::convert::Infallible;
 use std::marker::Model;

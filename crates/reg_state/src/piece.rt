@@ -11,7 +11,7 @@ ghost use Rattle.reg_state.specs.Pieces.{piece_of};
 
 use crate::register::{ContentFault, Register};
 use crate::seen::Seen;
-use reg_join::{Join, JoinFault};
+use reg_op::joining::{Join, JoinFault};
 use reg_op::{Op, OpId};
 use std::alloc::{AllocError, Global};
 use std::fmt;

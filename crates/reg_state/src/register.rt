@@ -24,7 +24,7 @@ use crate::table::{
     definition_in, first_clash, first_replaced, has_id, put_op, put_with_room, remove_replaced,
 };
 use crate::view::Ops;
-use reg_join::{Join, JoinFault};
+use reg_op::joining::{Join, JoinFault};
 use reg_op::{Definition, Op, OpId, Status};
 use std::alloc::{AllocError, Global};
 use std::marker::Model;

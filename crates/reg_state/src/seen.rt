@@ -11,8 +11,8 @@ ghost use Rattle.reg_state.specs.SeenLaws.{united, Always, AlwaysAgree, seen_law
 use crate::run::{Run, comes_before, ends_before, has_id, is_apart, is_of_or_before, overlap};
 use crate::runs::join_runs;
 use crate::seen_outside::{first_id_outside, runs_outside};
-use reg_join::{Join, JoinFault};
 use reg_op::OpId;
+use reg_op::joining::{Join, JoinFault};
 use std::alloc::{AllocError, Global};
 use std::convert::Infallible;
 use std::marker::Model;

@@ -1,7 +1,7 @@
 -- Files that are joined at once, where none of them is refused, are joined as by a walk.
 use Rattle.std.proofs.Common.{◌≡◌, ◌++◌, ◌∷◌, [], List, ℕ, ◌+◌, Result, Ok, Err, refl, sym, ap, subst, ◌∙◌}
 use Rattle.std.proofs.lemmas.List.{append_assoc}
-use Rattle.reg_join.specs.Joining.{all_joined}
+use Rattle.reg_op.specs.Joining.{all_joined}
 use Rattle.reg_op.specs.Set as set
 use Rattle.reg_op.specs.Ids.{Id, Ids}
 use Rattle.reg_op.specs.Operations.{Op, op_cmp}

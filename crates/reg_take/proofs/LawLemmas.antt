@@ -1,6 +1,6 @@
 -- A take that leaves no part out is a merge; otherwise the merge is refused with the fault of the first that is left out.
 use Rattle.std.proofs.Common.{◌≡◌, ◌⊎◌, ◌∷◌, ◌++◌, [], List, ℕ, ◌+◌, Result, Ok, Err, refl, sym, ap, subst, inl, inr, ◌∙◌}
-use Rattle.reg_join.specs.Joining.{all_joined}
+use Rattle.reg_op.specs.Joining.{all_joined}
 use Rattle.reg_op.specs.Ids.{Id}
 use Rattle.reg_op.specs.Contents.{Content, joined, IsContent}
 use Rattle.reg_op.specs.Pieces.{Piece, PieceRefusal, Basis, Clash, joined_piece}

@@ -6,3 +6,4 @@ mod EngineLemmas
 pub mod AgainLemmas
 pub mod AtOnceLemmas
 mod OwnLemmas
+mod MergingLemmas

@@ -2,7 +2,7 @@
 use Rattle.std.proofs.Common.{◌≡◌, ◌↔◌, ◌∷◌, ◌++◌, [], true, false, List, ℕ, ◌+◌, ◌≤◌, length, drop, Result, Ok, Err, Option, None, Some, refl, sym, ap, subst, ◌∙◌}
 use Rattle.std.proofs.lemmas.List.{drop_all}
 use Rattle.std.specs.Prelude.{IfOk}
-use Rattle.reg_join.specs.Joining.{all_joined, joined_with}
+use Rattle.reg_op.specs.Joining.{all_joined, joined_with}
 use Rattle.reg_op.specs.Ids.{Id}
 use Rattle.reg_op.specs.Contents.{Content, nothing, joined, joined_unless, merged, clash_of, IsContent}
 use Rattle.reg_op.specs.Pieces.{Piece, PieceRefusal, Basis, Clash, part_of, joined_where, joined_piece, first_missing}

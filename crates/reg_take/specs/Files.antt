@@ -7,7 +7,7 @@ use Rattle.reg_op.specs.Pieces.{part_of}
 use Rattle.reg_state.specs.Walks.{IsLeastOf}
 use Rattle.reg_journal.specs.Journal.{Journal}
 use Rattle.reg_journal.specs.Standing.{is_forged, IsHonest}
-use Rattle.reg_from.specs.Offices.{from_offices}
+use Rattle.reg_tree.specs.Offices.{from_offices}
 use Rattle.reg_file.specs.Parts.{FindsPart}
 use Rattle.reg_file.specs.declared.parts.Part.{Part}
 use Rattle.reg_file.specs.declared.parts.Part.TheVariants as part

@@ -4,3 +4,5 @@ pub mod Taken
 pub mod Take
 pub mod Engines
 pub mod Own
+pub mod Merging
+pub mod Catching

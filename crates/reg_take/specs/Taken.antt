@@ -3,7 +3,7 @@ use Rattle.std.specs.Prelude.{◌≡◌, ◌+◌, ◌∷◌, ◌++◌, [], Bool,
 use Rattle.reg_op.specs.Ids.{Id}
 use Rattle.reg_op.specs.Contents.{Content, nothing, joined, merged}
 use Rattle.reg_op.specs.Pieces.{Piece, PieceRefusal, Basis, Clash, first_missing, joined_piece}
-use Rattle.reg_join.specs.Joining.{all_joined}
+use Rattle.reg_op.specs.Joining.{all_joined}
 use Rattle.reg_file.specs.declared.parts.Part.{Part}
 use Rattle.reg_file.specs.declared.parts.Part.TheVariants as part
 use Rattle.reg_state.specs.declared.piece.PieceFault.{PieceFault}

@@ -9,7 +9,7 @@ use Rattle.reg_texts.specs.Gathered.{Each}
 use Rattle.reg_texts.specs.declared.against.UnreadTexts.{UnreadTexts}
 use Rattle.reg_texts.specs.declared.against.UnreadTexts.TheVariants as unread
 use Rattle.reg_texts.specs.Given.{Defines, IsRival, IsUnread, IsTextOrNone, IsTold, IsFirstLeft, IsFirstUnread, IsFileUnread, earlier}
-use Rattle.wkt_texts.specs.Texts.{IsCutInto}
+use Rattle.wkt_compare.specs.Texts.{IsCutInto}
 use Rattle.crs_value.specs.declared.key.Key.{Key}
 use Rattle.reg_op.specs.Definition.{IsKeyIn}
 use Rattle.reg_report.specs.Conflicts.{bytes_of}

@@ -1,7 +1,7 @@
 -- The first text that is passed over is the first that is not a definition.
 use Rattle.std.proofs.Common.{◌≡◌, ℕ, Option, Some, None, List, [], ◌∷◌, sym, subst, inl, inr}
 use Rattle.wkt_tree.specs.Tree.{Piece}
-use Rattle.wkt_texts.specs.Texts.{IsCutInto}
+use Rattle.wkt_compare.specs.Texts.{IsCutInto}
 use Rattle.reg_texts.specs.declared.against.UnreadTexts.{UnreadTexts}
 use Rattle.reg_texts.specs.declared.against.UnreadTexts.TheVariants as unread
 use Rattle.reg_texts.specs.Given.{IsUnread, IsFirstLeft, IsFirstUnread, IsFileUnread, IsFileAgainstWhereRead}

@@ -7,7 +7,7 @@ use Rattle.wkt_crs.specs.Spells.{SpellsCanon, pretty}
 use Rattle.wkt_crs.specs.Definition.{IsDefinition, IsCrsOf, IsTextFault, fault_place}
 use Rattle.wkt_crs.specs.declared.definition.DefinitionFault.TheVariants.{Memory as NoMemory}
 use Rattle.wkt_compare.specs.Hunks.{IsAdded}
-use Rattle.wkt_texts.specs.Texts.{IsCutInto}
+use Rattle.wkt_compare.specs.Texts.{IsCutInto}
 use Rattle.reg_op.specs.Contents.{Content}
 use Rattle.reg_op.specs.Rows.{Row, rows}
 use Rattle.reg_report.specs.Conflicts.{KeyBytes, HasKey}

@@ -12,7 +12,7 @@ use Rattle.crs_part.specs.declared.crs.GeodeticKind.TheVariants as geodetic
 use Rattle.crs_part.specs.declared.crs.Single.TheVariants as single
 use Rattle.crs_part.specs.declared.usages.BoundingBox.{BoundingBox}
 use Rattle.crs_part.specs.declared.usages.Usage.{Usage}
-use Rattle.crs_search.specs.Usages.{usages_of}
+use Rattle.crs_value.specs.Usages.{usages_of}
 use Rattle.reg_texts.specs.Listing.{successor_text}
 use Rattle.reg_texts.specs.Said.{Said}
 use Rattle.reg_texts.specs.declared.key_fields.BoxNumerals.{BoxNumerals}

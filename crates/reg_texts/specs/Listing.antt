@@ -3,7 +3,7 @@ use Rattle.std.specs.Prelude.{◌≡◌, ◌==◌, ◌||◌, ℕ, Bool, List, []
 use Rattle.std.specs.List.{flat_map, list_any}
 use Rattle.std.specs.Str.{bytes_eq}
 use Rattle.crs_value.specs.declared.crs.Crs.{Crs}
-use Rattle.text_short.specs.Short.{short}
+use Rattle.text_hidden.specs.Short.{short}
 use Rattle.wkt_crs.specs.Spells.{Spells, pretty}
 use Rattle.reg_report.specs.Conflicts.{KeyBytes}
 use Rattle.reg_texts.specs.declared.saying.Saying.{Saying}

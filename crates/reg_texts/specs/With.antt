@@ -4,7 +4,7 @@ use Rattle.byte_io.specs.Device.{SourceState, SinkState}
 use Rattle.byte_io.specs.Whole.{WritesAll}
 use Rattle.reg_engine.specs.WholeFile.{Gives, IsUnread}
 use Rattle.wkt_tree.specs.Tree.{Piece}
-use Rattle.wkt_texts.specs.Texts.{IsCutInto}
+use Rattle.wkt_compare.specs.Texts.{IsCutInto}
 use Rattle.reg_op.specs.Contents.{Content}
 use Rattle.reg_op.specs.Rows.{rows}
 use Rattle.reg_engine.specs.declared.fault.CliFault.{CliFault}

@@ -3,7 +3,7 @@
 ghost use Rattle.std.specs.Prelude.{◌≡◌, ◌≢◌, ◌++◌, List, ℕ, map, IfOk, IfErr, OnOk};
 ghost use Rattle.wkt_crs.specs.Definition.{IsTextFault};
 ghost use Rattle.wkt_crs.specs.declared.definition.DefinitionFault.TheVariants.{Memory as NoMemory};
-ghost use Rattle.wkt_texts.specs.Texts.{piece_of};
+ghost use Rattle.wkt_compare.specs.Texts.{piece_of};
 ghost use Rattle.reg_op.specs.Rows.{Row as OneRow};
 ghost use Rattle.reg_report.specs.Seen.{row_seen};
 ghost use Rattle.reg_keys.specs.Index.{IsIndex};
@@ -18,8 +18,8 @@ use reg_keys::{KeyIndex, index_of_register, rows_of_key};
 use reg_report::Row;
 use reg_state::Register;
 use std::alloc::{AllocError, Global};
+use wkt_compare::splitting::{Cut, texts};
 use wkt_crs::{Definition, DefinitionFault};
-use wkt_texts::{Cut, texts};
 
 /// Why the texts of a file are not compared.
 #[derive(Clone, Copy, Debug, PartialEq, Eq)]

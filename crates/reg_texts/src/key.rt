@@ -3,11 +3,11 @@
 ghost use Rattle.std.specs.Prelude.{◌≡◌, ◌↔◌, ◌++◌, ◌∷◌, [], map, IsTrue, OnOk};
 ghost use Rattle.reg_report.specs.Keys.{key_bytes};
 ghost use Rattle.reg_texts.specs.Listing.{key_text, on_line};
-ghost use Rattle.text_short.specs.Short.{short};
+ghost use Rattle.text_hidden.specs.Short.{short};
 
 use reg_report::KeyText;
 use std::alloc::{AllocError, Global};
-use text_short::push_short;
+use text_hidden::push_short;
 
 /// Whether both are one key.
 pub fn is_same_key(one: &KeyText, other: &KeyText) -> bool

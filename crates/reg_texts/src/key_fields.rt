@@ -13,7 +13,7 @@ use crate::listing::push_successors;
 use crate::saying::Saying;
 use crs_number::Decimal;
 use crs_part::{BoundingBox, CrsParts, GeodeticKind, Single, Text, Usage};
-use crs_search::usages_of;
+use crs_value::search::usages_of;
 use csv::Writer;
 use reg_report::write_fields;
 use std::alloc::{AllocError, Global};

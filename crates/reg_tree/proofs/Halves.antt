@@ -8,7 +8,7 @@ use Rattle.reg_op.proofs.OpLemmas.{id_total, id_exact, op_total, op_exact}
 use Rattle.reg_op.proofs.FiniteLemmas.{union_assoc, union-empty}
 use Rattle.reg_op.proofs.ContentLemmas.{OneBody-within, union_left, union_right, same_content, kept-union_left, kept-union_right}
 use Rattle.reg_op.proofs.JoinLemmas.{joined_ok}
-use Rattle.reg_join.specs.Joining.{all_joined}
+use Rattle.reg_op.specs.Joining.{all_joined}
 use Rattle.reg_state.specs.ManyLaws.{all_ops, all_seen, merged_all}
 use Rattle.reg_state.proofs.ManyLemmas.{joined_all}
 

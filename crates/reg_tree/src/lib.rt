@@ -3,6 +3,7 @@
 
 mod agreeing;
 mod needs;
+pub mod offices;
 mod pieces;
 mod registers;
 

@@ -7,7 +7,7 @@ ghost use Rattle.reg_op.specs.Set as set;
 ghost use Rattle.reg_state.specs.ManyLaws.{all_seen};
 ghost use Rattle.reg_tree.specs.Chain.{AllHeld};
 
-use reg_join::Join;
+use reg_op::joining::Join;
 use reg_state::{Piece, Seen};
 use std::alloc::{AllocError, Global};
 

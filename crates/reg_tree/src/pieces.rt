@@ -10,8 +10,8 @@ ghost use Rattle.reg_tree.specs.Listed.{ops_at, ops_in};
 use crate::agreeing::{agree, push_ops};
 use crate::needs::needs_of;
 use crate::registers::join_halves;
-use reg_join::Join;
 use reg_op::Op;
+use reg_op::joining::Join;
 use reg_state::{Piece, PieceFault, Register};
 use std::alloc::{AllocError, Global};
 

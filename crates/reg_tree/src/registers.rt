@@ -2,7 +2,7 @@
 
 ghost use Rattle.std.specs.Prelude.{◌≡◌, Ok, Err, IfOk};
 ghost use Rattle.std.specs.Bool.{OnTrue};
-ghost use Rattle.reg_join.specs.Joining.{all_joined};
+ghost use Rattle.reg_op.specs.Joining.{all_joined};
 ghost use Rattle.reg_op.specs.Contents.{nothing, joined};
 ghost use Rattle.reg_op.specs.Ids.{Id};
 ghost use Rattle.reg_op.specs.Operations.{OneBody};
@@ -10,7 +10,7 @@ ghost use Rattle.reg_state.specs.ManyLaws.{all_ops, merged_all};
 ghost use Rattle.reg_tree.specs.Listed.{ops_at, ops_in};
 
 use crate::agreeing::{agree, push_ops};
-use reg_join::{Join, JoinFault, join_all};
+use reg_op::joining::{Join, JoinFault, join_all};
 use reg_op::{Op, OpId};
 use reg_state::Register;
 use std::alloc::{AllocError, Global};

@@ -5,3 +5,10 @@ pub mod Desks
 pub mod PlaceLemmas
 pub mod RegisterLemmas
 pub mod StepLemmas
+pub mod WorkLemmas
+pub mod StageLemmas
+pub mod OfficeStepLemmas
+pub mod NotedLemmas
+pub mod DeskLemmas
+pub mod DoneLemmas
+pub mod AgainLemmas

@@ -6,10 +6,10 @@ use Rattle.reg_op.specs.declared.operation.OpBody.{OpBody as Body}
 use Rattle.reg_op.specs.Contents.{Content, IsContent, nothing, joined}
 use Rattle.reg_op.specs.Pieces.{Piece, PieceRefusal, Clash, joined_piece}
 use Rattle.reg_op.proofs.ContentLemmas.{joined_nothing}
-use Rattle.reg_join.specs.Joining.{all_joined}
+use Rattle.reg_op.specs.Joining.{all_joined}
 use Rattle.reg_office.specs.Commands.{Does}
 use Rattle.reg_commands.specs.Merge.{begun, with_pieces}
-use Rattle.reg_links.specs.Retiring.{RetiresFor}
+use Rattle.reg_disorder.specs.Retiring.{RetiresFor}
 use Rattle.reg_supersede.specs.Lines.{words}
 use Rattle.reg_supersede.specs.Lists.{Task, effects_of, DoesFor, DoesAll}
 use Rattle.reg_supersede.specs.declared.fault.RefusedLine.{RefusedLine}

@@ -3,3 +3,7 @@ pub mod Writers
 pub mod Desk
 pub mod Steps
 pub mod Registers
+pub mod Works
+pub mod OfficeDesk
+pub mod Worlds
+pub mod Again

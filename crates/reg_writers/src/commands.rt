@@ -4,13 +4,13 @@ ghost use Rattle.std.specs.Prelude.{◌≡◌, ◌∷◌, ◌++◌, ℕ, Bool, L
 ghost use Rattle.reg_op.specs.Ids.{Id};
 ghost use Rattle.reg_op.specs.Contents.{Content, IsContent, nothing, joined};
 ghost use Rattle.reg_op.specs.Pieces.{Piece};
-ghost use Rattle.reg_join.specs.Joining.{all_joined};
+ghost use Rattle.reg_op.specs.Joining.{all_joined};
 ghost use Rattle.reg_commands.specs.Merge.{begun, with_pieces};
 ghost use Rattle.reg_supersede.specs.Lists.{Task, DoesAll};
 ghost use Rattle.reg_supersede.specs.declared.fault.RefusedLine.{RefusedLine};
-ghost use Rattle.reg_links.specs.declared.link.Link.{Link};
-ghost use Rattle.reg_links.specs.Passing.{PassesOn};
-ghost use Rattle.reg_links.specs.Retiring.{RetiresFor};
+ghost use Rattle.reg_disorder.specs.declared.linking.link.Link.{Link};
+ghost use Rattle.reg_disorder.specs.Passing.{PassesOn};
+ghost use Rattle.reg_disorder.specs.Retiring.{RetiresFor};
 ghost use Rattle.reg_import.specs.declared.reading.ReadText.{ReadText};
 ghost use Rattle.reg_import.specs.declared.action.Differs.{Differs};
 ghost use Rattle.reg_import.specs.declared.action.TextAction.{TextAction};

@@ -3,6 +3,7 @@
 
 mod commands;
 mod laws;
+pub mod offices;
 mod registers;
 mod steps;
 

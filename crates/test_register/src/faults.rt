@@ -1,6 +1,6 @@
 //! How ids and faults of operations and registers print.
 
-use reg_join::JoinFault;
+use reg_op::joining::JoinFault;
 use reg_op::{NoteFault, OpId};
 use reg_state::{ContentFault, PieceFault, TakeFault};
 use std::alloc::Global;

@@ -1,7 +1,7 @@
 //! Tests of marks and their joins.
 
-use reg_join::{Join, join_all};
 use reg_op::OpId;
+use reg_op::joining::{Join, join_all};
 use reg_state::{Mark, MarkTarget, Marks};
 use std::alloc::Global;
 use std::process::Abort;

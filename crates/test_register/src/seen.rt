@@ -1,7 +1,7 @@
 //! Tests of the ids that were seen.
 
-use reg_join::{Join, join_all};
 use reg_op::OpId;
+use reg_op::joining::{Join, join_all};
 use reg_state::{Run, Seen};
 use std::alloc::Global;
 use std::process::Abort;

@@ -1,3 +1,4 @@
 pub mod Set
 pub mod Bytes
 pub mod Marks
+pub mod Short

@@ -4,6 +4,8 @@
 mod bytes;
 pub mod laws;
 mod set;
+mod short;
 
 pub use bytes::{HiddenCharacter, hidden_at};
 pub use set::{is_hidden, is_hidden_code};
+pub use short::push_short;

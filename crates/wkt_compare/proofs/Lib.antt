@@ -4,3 +4,10 @@ mod TableLemmas
 mod ChoiceLemmas
 mod StepLemmas
 mod HunkLemmas
+mod Steps
+mod Firsts
+pub mod Nexts
+pub mod EachCut
+pub mod OneCut
+mod Skips
+pub mod Found

@@ -4,6 +4,7 @@
 mod hunk;
 mod lines;
 mod near;
+pub mod splitting;
 mod steps;
 mod table;
 mod writing;

@@ -3,7 +3,7 @@
 ghost use Rattle.std.specs.Prelude.{List, [], ◌∷◌, IfSome, IfNone};
 ghost use Rattle.wkt_tree.specs.Tree.{Piece};
 ghost use Rattle.wkt_crs.specs.Faults.{IsGrammatical};
-ghost use Rattle.wkt_texts.specs.Texts.{piece_of, IsCutInto};
+ghost use Rattle.wkt_compare.specs.Texts.{piece_of, IsCutInto};
 ghost use Rattle.reg_op.specs.Contents.{Content, IsContent};
 ghost use Rattle.reg_import.specs.declared.reading.ReadText.TheVariants as reading;
 ghost use Rattle.reg_import.specs.Readings.{IsReading};
@@ -19,8 +19,8 @@ use reg_import::{Problem, ReadText, told_at};
 use reg_office::OfficeFault;
 use reg_op::Note;
 use std::alloc::Global;
+use wkt_compare::splitting::{Cut, begin, next_text};
 use wkt_crs::{Definition, DefinitionFault};
-use wkt_texts::{Cut, begin, next_text};
 
 // The first text of a file.
 fn first_in(bytes: &[u8]) -> Option<Cut<'_>>

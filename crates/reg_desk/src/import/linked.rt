@@ -8,8 +8,8 @@ ghost use Rattle.reg_import.specs.Taking.{HasTaken};
 ghost use Rattle.reg_desk.specs.ImportLinks.{ImportsLinked, IsUnlinked};
 
 use crate::import::options::ImportOptions;
+use reg_disorder::linking::{Link, Passed, links, pass_on};
 use reg_import::Importing;
-use reg_links::{Link, Passed, links, pass_on};
 use reg_office::{Office, OfficeFault};
 use reg_state::Register;
 use std::alloc::Global;

@@ -16,8 +16,8 @@ use crate::import::options::ImportOptions;
 use crate::import::progress::{Progress, taken};
 use reg_import::{ReadText, read_at};
 use std::alloc::{AllocError, Global};
+use wkt_compare::splitting::{Cut, begin, next_text};
 use wkt_explain::Explainer;
-use wkt_texts::{Cut, begin, next_text};
 
 /// A text: the index of its file, from 0, the offset of its first byte there, and its bytes.
 #[derive(Clone, Copy)]

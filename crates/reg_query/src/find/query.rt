@@ -2,17 +2,17 @@
 
 ghost use Rattle.std.specs.Prelude.{◌≡◌, ◌↔◌, IsTrue, IfSome, List, Some};
 ghost use Rattle.std.specs.List.{list_any};
-ghost use Rattle.crs_search.specs.Kinds.{kind_of};
-ghost use Rattle.crs_search.specs.Parts.{IsAlike, HasPart};
-ghost use Rattle.crs_search.specs.Usages.{IsInArea, HasPoint};
+ghost use Rattle.crs_value.specs.Kinds.{kind_of};
+ghost use Rattle.crs_value.specs.Parts.{IsAlike, HasPart};
+ghost use Rattle.crs_value.specs.Usages.{IsInArea, HasPoint};
 ghost use Rattle.reg_keys.specs.Words.{NamesKey};
 ghost use Rattle.reg_op.specs.Rows.{Row};
 ghost use Rattle.reg_report.specs.Conflicts.{bytes_of};
 ghost use Rattle.reg_query.specs.Queries.{asks_value, is_colon, HasSome, IsBareCode, IsResolved, IsSought, IsTitled, IsWanted, MeetsOptions, MeetsTitle, MeetsValue};
 
 use crs_part::CrsParts;
-use crs_search::{Kind, Point, has_part, has_point, is_alike, is_in_area, is_of_kind};
 use crs_value::Key;
+use crs_value::search::{Kind, Point, has_part, has_point, is_alike, is_in_area, is_of_kind};
 use reg_keys::names_key;
 use reg_op::Status;
 use std::alloc::Global;

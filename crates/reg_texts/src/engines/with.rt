@@ -2,7 +2,7 @@
 
 ghost use Rattle.std.specs.Prelude.{ℕ, List, IfOk, IfErr};
 ghost use Rattle.wkt_tree.specs.Tree.{Piece};
-ghost use Rattle.wkt_texts.specs.Texts.{IsCutInto};
+ghost use Rattle.wkt_compare.specs.Texts.{IsCutInto};
 ghost use Rattle.reg_texts.specs.Given.{IsFileUnread, IsFirstLeft};
 ghost use Rattle.reg_texts.specs.With.{IsRefusedIn, IsLeftIn, IsComparedWithFile, IsUncomparedWith, IsComparedInPart, IsUncomparedInPart};
 

@@ -1,7 +1,7 @@
 use Rattle.std.proofs.Common.{◌≡◌, refl, map, subst, Ok, List, ℕ, Option, None}
 use Rattle.byte_out.specs.Input.{kept_of, first_kept}
 use Rattle.reg_op.specs.Contents.{nothing, joined}
-use Rattle.reg_join.specs.Joining.{all_joined}
+use Rattle.reg_op.specs.Joining.{all_joined}
 use Rattle.reg_engine.specs.Outputs.{PublishesFile, IsUnpublished}
 use Rattle.reg_commands.specs.Merge.{ends, begun, with_pieces, IsUnjoined}
 use Rattle.reg_engine.proofs.InputLemmas.{none_failed}

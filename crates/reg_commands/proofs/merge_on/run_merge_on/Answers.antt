@@ -1,6 +1,6 @@
 use Rattle.std.proofs.Common.{◌≡◌, ◌∷◌, [], Ok, map, subst}
 use Rattle.reg_op.specs.Contents.{nothing, joined}
-use Rattle.reg_join.specs.Joining.{all_joined}
+use Rattle.reg_op.specs.Joining.{all_joined}
 use Rattle.reg_commands.specs.Merge.{begun, with_pieces, IsUnjoined}
 use Rattle.reg_engine.specs.Shelf.{disks}
 use Rattle.reg_commands.specs.MergeOn.{shelf_ends}

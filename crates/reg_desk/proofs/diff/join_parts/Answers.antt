@@ -1,5 +1,5 @@
 use Rattle.std.proofs.Common.{Ok, sym, ap, subst, ◌∙◌}
-use Rattle.reg_join.specs.Joining.{all_joined}
+use Rattle.reg_op.specs.Joining.{all_joined}
 use Rattle.reg_op.specs.Contents.{nothing, joined}
 use Rattle.reg_commands.specs.Merge.{begun, with_pieces, IsUnjoined}
 use Rattle.reg_commands.proofs.MergeLemmas.{refusal_stays}

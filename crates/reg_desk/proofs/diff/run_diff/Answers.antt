@@ -1,7 +1,7 @@
 use Rattle.std.proofs.Common.{◌≡◌, List, ℕ, Ok, map, refl, inr, sym, subst, ◌∙◌}
 use Rattle.reg_op.specs.Contents.{Content, nothing, joined}
 use Rattle.reg_op.specs.Pieces.{Piece}
-use Rattle.reg_join.specs.Joining.{all_joined}
+use Rattle.reg_op.specs.Joining.{all_joined}
 use Rattle.reg_query.specs.DiffLines.{IsDiff}
 use Rattle.reg_engine.specs.Inputs.{AreUnread, registers}
 use Rattle.reg_commands.specs.Merge.{begun, with_pieces, IsUnjoined}

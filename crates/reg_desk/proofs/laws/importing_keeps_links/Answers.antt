@@ -1,4 +1,4 @@
-use Rattle.reg_links.proofs.Passes.{linked_is_superseded}
+use Rattle.reg_disorder.proofs.Passes.{linked_is_superseded}
 use Rattle.reg_desk.proofs.ImportedLinks.{import_passes, import_no_other}
 use Rattle.reg_desk.proofs.laws.importing_keeps_links.Goals as goal
 

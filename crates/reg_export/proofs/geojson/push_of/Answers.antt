@@ -1,5 +1,5 @@
 use Rattle.std.proofs.Common.{ap, ◌∙◌}
-use Rattle.crs_search.specs.Usages.{usages_of}
+use Rattle.crs_value.specs.Usages.{usages_of}
 use Rattle.crs_export.specs.Features.{features}
 use Rattle.reg_export.proofs.geojson.push_of.Goals as goal
 

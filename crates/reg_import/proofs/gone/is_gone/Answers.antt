@@ -1,7 +1,7 @@
 use Rattle.std.proofs.Common.{◌↔◌, refl, sym, ap, ◌∙◌, subst}
 use Rattle.std.specs.Prelude.{IsTrue, Contains}
 use Rattle.crs_value.specs.declared.key.Key.{Key}
-use Rattle.crs_search.specs.Parts.{IsAlike}
+use Rattle.crs_value.specs.Parts.{IsAlike}
 use Rattle.reg_report.specs.Conflicts.{bytes_of}
 use Rattle.reg_report.specs.Seen.{row_seen}
 use Rattle.reg_import.proofs.GoneLemmas.{is_of_another, is_of_it}

@@ -1,5 +1,5 @@
 use Rattle.std.proofs.Common.{[], map, None, Some, ap, refl}
-use Rattle.crs_search.specs.Parts.{lower}
+use Rattle.crs_value.specs.Parts.{lower}
 use Rattle.reg_report.specs.Seen.{row_seen}
 use Rattle.reg_keys.proofs.IndexLemmas.{found_in}
 use Rattle.reg_keys.proofs.index.rows_of_word.Goals as goal

@@ -1,5 +1,5 @@
 use Rattle.std.proofs.Common.{map, ap, subst}
-use Rattle.wkt_texts.specs.Texts.{piece_of}
+use Rattle.wkt_compare.specs.Texts.{piece_of}
 use Rattle.reg_lint.specs.Texts.{AreTextsKept, IsFirstUnread}
 use Rattle.reg_lint.proofs.TextLemmas.{file_unread}
 use Rattle.reg_lint.proofs.texts.push_texts.Goals as goal

@@ -1,5 +1,5 @@
 use Rattle.std.proofs.Common.{◌≡◌, ◌++◌, map, length}
-use Rattle.crs_search.specs.Usages.{usages_of}
+use Rattle.crs_value.specs.Usages.{usages_of}
 use Rattle.reg_page.specs.Boxes.{box_seen, boxes_in}
 use Rattle.reg_page.proofs.boxes.boxes_of.Given as goal
 

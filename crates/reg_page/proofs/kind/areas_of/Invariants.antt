@@ -1,6 +1,6 @@
 use Rattle.std.proofs.Common.{◌≡◌, ℕ, ◌++◌, map, length}
 use Rattle.std.specs.Global.{Vec}
-use Rattle.crs_search.specs.Usages.{usages_of}
+use Rattle.crs_value.specs.Usages.{usages_of}
 use Rattle.reg_page.specs.Kinds.{areas_in}
 use Rattle.reg_page.proofs.kind.areas_of.Given as goal
 

@@ -1,7 +1,7 @@
 use Rattle.std.proofs.Common.{◌+◌, map, drop, ap, sym, subst}
 use Rattle.std.proofs.lemmas.List.{drop_more, drop_all}
 use Rattle.std.proofs.lemmas.Result.{err_from_is_err_and}
-use Rattle.wkt_texts.specs.Texts.{piece_of}
+use Rattle.wkt_compare.specs.Texts.{piece_of}
 use Rattle.reg_texts.specs.Given.{IsTextAgainst}
 use Rattle.reg_texts.proofs.EachLemmas.{Gathers, gathers_none, gathers_more, gathers_all}
 use Rattle.reg_texts.proofs.GivenLemmas.{passes_more, passes_here}

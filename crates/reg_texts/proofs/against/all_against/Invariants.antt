@@ -1,5 +1,5 @@
 use Rattle.std.proofs.Common.{List, map, drop}
-use Rattle.wkt_texts.specs.Texts.{piece_of}
+use Rattle.wkt_compare.specs.Texts.{piece_of}
 use Rattle.reg_op.specs.Rows.{Row}
 use Rattle.reg_keys.specs.Index.{IsIndex}
 use Rattle.reg_texts.specs.Given.{IsTextAgainst}

@@ -1,5 +1,5 @@
 use Rattle.std.proofs.Common.{map, ap, subst}
-use Rattle.wkt_texts.specs.Texts.{piece_of}
+use Rattle.wkt_compare.specs.Texts.{piece_of}
 use Rattle.reg_op.specs.Rows.{rows}
 use Rattle.reg_texts.specs.Gathered.{Each}
 use Rattle.reg_texts.specs.Given.{IsTextAgainst, IsFirstUnread}

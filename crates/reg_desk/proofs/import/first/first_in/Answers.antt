@@ -1,6 +1,6 @@
 use Rattle.std.proofs.Common.{[], ap, ◌∙◌, length, length-drop, arith}
 use Rattle.std.proofs.lemmas.List.{take_rest}
-use Rattle.wkt_texts.specs.Texts.{piece_of}
+use Rattle.wkt_compare.specs.Texts.{piece_of}
 use Rattle.reg_desk.proofs.FirstTextLemmas.{cut_from, begins_with}
 use Rattle.reg_desk.proofs.import.first.first_in.Goals as goal
 

@@ -1,7 +1,7 @@
 use Rattle.std.proofs.Common.{◌+◌, List, ℕ, [], drop, length-drop, arith, ap, sym, refl, subst, ◌∷◌, ◌∙◌}
 use Rattle.std.proofs.lemmas.List.{drop_more, length-map}
 use Rattle.wkt_tree.specs.Tree.{Piece}
-use Rattle.wkt_texts.specs.Texts.{piece_of, IsCutInto}
+use Rattle.wkt_compare.specs.Texts.{piece_of, IsCutInto}
 use Rattle.reg_desk.specs.ImportFiles.{bytes_of}
 use Rattle.reg_desk.proofs.ImportTextLemmas.{cuts_more, cuts_done}
 use Rattle.reg_desk.proofs.FirstTextLemmas.{first_here}

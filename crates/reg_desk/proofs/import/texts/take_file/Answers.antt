@@ -1,7 +1,7 @@
 use Rattle.std.proofs.Common.{◌∙◌, ap, arith, length, length-drop}
 use Rattle.std.proofs.lemmas.List.{take_rest}
-use Rattle.wkt_texts.specs.Texts.{piece_of}
-use Rattle.wkt_texts.proofs.Nexts.{next_len, next_less}
+use Rattle.wkt_compare.specs.Texts.{piece_of}
+use Rattle.wkt_compare.proofs.Nexts.{next_len, next_less}
 use Rattle.reg_desk.proofs.ImportTextLemmas.{none_yet, one_more, ends_here, file_done}
 use Rattle.reg_desk.proofs.import.texts.take_file.Goals as goal
 

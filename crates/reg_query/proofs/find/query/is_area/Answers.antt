@@ -1,5 +1,5 @@
 use Rattle.std.proofs.Common.{◌↔◌, ℕ, List, IsTrue, subst}
-use Rattle.crs_search.specs.Usages.{IsInArea}
+use Rattle.crs_value.specs.Usages.{IsInArea}
 use Rattle.reg_query.proofs.find.query.is_area.Goals as goal
 
 pub returns-in-Some : goal.returns-in-Some

@@ -1,7 +1,7 @@
 use Rattle.std.proofs.Common.{map, refl, sym, ap, ◌∙◌}
 use Rattle.std.proofs.lemmas.Bool.{true≢false}
 use Rattle.std.proofs.lemmas.List.{length-map}
-use Rattle.crs_search.proofs.AnyLemmas.{first_is, passed, none_is}
+use Rattle.crs_value.proofs.AnyLemmas.{first_is, passed, none_is}
 use Rattle.reg_keys.specs.Named.{HasWord}
 use Rattle.reg_report.specs.Seen.{row_seen}
 use Rattle.reg_query.proofs.find.search.has_some.Goals as goal

@@ -1,5 +1,5 @@
 use Rattle.std.proofs.Common.{◌≡◌, sym, ap, ◌∙◌, Err}
-use Rattle.reg_join.specs.declared.JoinFault.{JoinFault}
+use Rattle.reg_op.specs.declared.joining.JoinFault.{JoinFault}
 use Rattle.reg_state.proofs.PieceLemmas.{clash_of_part}
 use Rattle.reg_state.proofs.register.Register.join_piece.Goals as goal
 

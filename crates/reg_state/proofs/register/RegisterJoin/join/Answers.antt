@@ -3,7 +3,7 @@ use Rattle.reg_op.specs.Set as set
 use Rattle.reg_op.specs.Operations.{OneBody}
 use Rattle.reg_op.specs.Contents.{merged, joined, joined_unless}
 use Rattle.reg_op.proofs.ContentLemmas.{joined_content}
-use Rattle.reg_join.specs.declared.JoinFault.{JoinFault}
+use Rattle.reg_op.specs.declared.joining.JoinFault.{JoinFault}
 use Rattle.reg_state.specs.Merge.{clash_in}
 use Rattle.reg_op.specs.Lists.{content_at}
 use Rattle.reg_state.proofs.TableLemmas.{joined_is, one_body_of, err_same, ok_not_err}

@@ -1,9 +1,0 @@
-use Rattle.std.proofs.Common.{◌↔◌, length}
-use Rattle.crs_search.specs.Parts.{HasPart}
-use Rattle.crs_search.proofs.part.begins_somewhere.Given as goal
-
-abbrev pub invariant-loop-others : goal.invariant-loop-others
-invariant-loop-others l = HasPart l.part l.text ↔ HasPart l.part l.rest
-
-abbrev pub decreases-loop-others : goal.decreases-loop-others
-decreases-loop-others l = length l.rest

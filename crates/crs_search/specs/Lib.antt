@@ -1,4 +1,0 @@
-pub mod Parts
-pub mod Usages
-pub mod Kinds
-pub mod Points

@@ -1,0 +1,119 @@
+//! Texts with names in the place of UUIDs.
+
+ghost use Rattle.std.specs.Prelude.{◌≡◌, ◌++◌, ◌∷◌, IfOk, OnOk, List, ℕ, Some, option_map};
+ghost use Rattle.csv_table.specs.Shown.{is_gap, ends, begins, found, put, left_out, shown_from, shown};
+
+use crate::offices::names::{Name, stands};
+use std::alloc::{AllocError, Global};
+
+/// The text with names in the place of the UUIDs of offices. With `keeps`, the UUID follows its name in parentheses.
+pub fn named(alloc: Global, keeps: bool, names: &[Name], text: &[u8]) -> Result<Vec<u8>, AllocError>
+    ensures { IfOk result (λ out. out.items ≡ shown keeps names.now text.now) }
+{
+    let mut out = Vec::new(alloc);
+    let mut rest = text;
+    let mut skip = 0;
+    let mut starts = true;
+    while let Some((byte, others)) = rest.split_first() {
+        skip = push_next(&mut out, keeps, names, rest, *byte, skip, starts)?;
+        starts = is_gap(*byte);
+        rest = others;
+    }
+    Ok(out)
+}
+
+#[tactic(auto, using(crate::offices::proofs::ShownLemmas::skipped, crate::offices::proofs::ShownLemmas::taken))]
+// Appends what stands in the place of the first byte, unless it is left out, and returns how many bytes after it are left out.
+fn push_next(
+    out: &mut Vec<u8>,
+    keeps: bool,
+    names: &[Name],
+    rest: &[u8],
+    byte: u8,
+    skip: usize,
+    starts: bool,
+) -> Result<usize, AllocError>
+    ensures { IfOk result (λ next. (bs : List ℕ) → rest.now ≡ byte ∷ bs → out.new.items ++ shown_from bs next (is_gap byte) keeps names.now ≡ out.old.items ++ shown_from rest.now skip starts keeps names.now) }
+{
+    if skip > 0 {
+        return Ok(skip - 1);
+    }
+    push_here(out, keeps, names, rest, byte, starts)
+}
+
+// Appends what stands in the place of the first byte, and returns how many bytes after it are left out.
+fn push_here(
+    out: &mut Vec<u8>,
+    keeps: bool,
+    names: &[Name],
+    rest: &[u8],
+    byte: u8,
+    starts: bool,
+) -> Result<usize, AllocError>
+    ensures next { IfOk result (λ next. next ≡ left_out (found names.now rest.now starts)) }
+    ensures put { OnOk result (out.new.items ≡ out.old.items ++ put keeps (found names.now rest.now starts) byte) }
+{
+    match found(names, rest, starts) {
+        Some(name) => {
+            push_name(out, keeps, name)?;
+            Ok(name.office.len().saturating_sub(1))
+        }
+        None => {
+            out.push(byte)?;
+            Ok(0)
+        }
+    }
+}
+
+fn push_name(out: &mut Vec<u8>, keeps: bool, name: &Name) -> Result<(), AllocError>
+    ensures { OnOk result (out.new.items ≡ out.old.items ++ put keeps (Some name.now) 0) }
+{
+    out.extend_from_slice(&name.name)?;
+    if !keeps {
+        return Ok(());
+    }
+    out.extend_from_slice(b" (")?;
+    out.extend_from_slice(&name.office)?;
+    out.push(b')')?;
+    Ok(())
+}
+
+// The name at the beginning of the text, if a word begins there.
+fn found<'n>(names: &'n [Name], text: &[u8], starts: bool) -> Option<&'n Name>
+    ensures { option_map (λ n. n.now) result ≡ found names.now text.now starts }
+{
+    if !starts {
+        return None;
+    }
+    for name in names {
+        if begins(names, text, name) {
+            return Some(name);
+        }
+    }
+    None
+}
+
+// Whether the text begins with the UUID of this row, and its name stands for it.
+fn begins(names: &[Name], text: &[u8], name: &Name) -> bool
+    ensures { result ≡ begins names.now text.now name.now }
+{
+    match text.strip_prefix(name.office.as_slice()) {
+        Some(rest) => ends(rest) && stands(names, name),
+        None => false,
+    }
+}
+
+fn ends(rest: &[u8]) -> bool
+    ensures { result ≡ ends rest.now }
+{
+    match rest.split_first() {
+        Some((byte, _)) => is_gap(*byte) || *byte == b',' || *byte == b':',
+        None => true,
+    }
+}
+
+fn is_gap(byte: u8) -> bool
+    ensures { result ≡ is_gap byte }
+{
+    byte == b' ' || byte == b'\n'
+}

@@ -1,4 +1,0 @@
-pub mod Names
-pub mod Reading
-pub mod Shown
-pub mod Sheets

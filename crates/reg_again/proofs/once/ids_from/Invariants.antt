@@ -1,6 +1,0 @@
-use Rattle.std.proofs.Common.{◌≡◌}
-use Rattle.reg_state.specs.Runs.{ids_from}
-use Rattle.reg_again.proofs.once.ids_from.Given as goal
-
-abbrev pub invariant-loop-i : goal.invariant-loop-i
-invariant-loop-i l = l.ids.items ≡ ids_from l.fn.replica l.fn.first l.i

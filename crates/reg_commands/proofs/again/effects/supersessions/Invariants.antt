@@ -1,0 +1,6 @@
+use Rattle.std.proofs.Common.{◌≡◌, take}
+use Rattle.reg_office.specs.Commands.{supersessions}
+use Rattle.reg_commands.proofs.again.effects.supersessions.Given as goal
+
+abbrev pub invariant-loop-entry : goal.invariant-loop-entry
+invariant-loop-entry l = l.made.items ≡ supersessions l.old (take l.entry-index l.newer)

@@ -1,2 +1,0 @@
-pub mod OfficeLemmas
-mod PieceLemmas

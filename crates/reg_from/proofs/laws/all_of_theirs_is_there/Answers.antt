@@ -1,5 +1,0 @@
-use Rattle.reg_from.proofs.OfficeLemmas.{theirs_is_content, theirs_all}
-use Rattle.reg_from.proofs.laws.all_of_theirs_is_there.Goals as goal
-
-pub returns : goal.returns
-returns c = record { content = theirs_is_content; all = theirs_all }

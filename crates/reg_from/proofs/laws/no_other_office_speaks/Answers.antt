@@ -1,5 +1,0 @@
-use Rattle.reg_from.proofs.OfficeLemmas.{gains_operation, gains_number}
-use Rattle.reg_from.proofs.laws.no_other_office_speaks.Goals as goal
-
-pub returns : goal.returns
-returns c = record { operations = gains_operation; numbers = gains_number }

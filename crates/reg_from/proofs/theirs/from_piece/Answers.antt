@@ -1,5 +1,0 @@
-use Rattle.reg_from.proofs.OfficeLemmas.{all_listed}
-use Rattle.reg_from.proofs.theirs.from_piece.Goals as goal
-
-pub returns : goal.returns
-returns c = all_listed c.args.offices.now c.args.piece.now.ops c.ops.result.now c.register_of.result c.ops.ensures.items c.register_of.ensures

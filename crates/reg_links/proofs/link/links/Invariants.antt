@@ -1,8 +1,0 @@
-use Rattle.std.proofs.Common.{◌≡◌, take}
-use Rattle.std.specs.List.{flat_map}
-use Rattle.reg_op.specs.Operations.{Op}
-use Rattle.reg_links.specs.Links.{link_in}
-use Rattle.reg_links.proofs.link.links.Given as goal
-
-abbrev pub invariant-loop-op : goal.invariant-loop-op
-invariant-loop-op l = l.links.items ≡ flat_map (λ (o : Op). link_in l.register.ops o.body) (take l.op-index l.ops)

@@ -1,0 +1,9 @@
+//! What a register gained that no row shows, and that cannot be undone.
+
+mod came;
+mod hidden;
+mod risen;
+mod said;
+
+pub use hidden::{Hidden, hidden_in};
+pub use risen::Risen;

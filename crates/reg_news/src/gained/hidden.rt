@@ -1,0 +1,94 @@
+//! What a register gained that no row shows, and that cannot be undone.
+
+ghost use Rattle.std.specs.Prelude.{◌≡◌, length, IfOk};
+ghost use Rattle.std.specs.List.{count_by};
+ghost use Rattle.reg_op.specs.Set as set;
+ghost use Rattle.reg_op.specs.Rows.{awaited};
+ghost use Rattle.reg_news.specs.Hidden.{is_of_another, retires_of_others, IsLength, IsHidden};
+
+use crate::gained::came::came;
+use crate::gained::risen::{Risen, offices_risen};
+use reg_file::{WriteFileFault, write_bytes};
+use reg_op::{Op, OpBody, OpId};
+use reg_report::awaited;
+use reg_state::Register;
+use std::alloc::{AllocError, Global};
+
+/// What a register gained that no row shows, and that cannot be undone.
+#[derive(Drop)]
+pub struct Hidden {
+    /// Retirements that came, by offices that had not entered the entries.
+    pub retired: usize,
+    /// Awaited ids before.
+    pub awaited_before: usize,
+    /// Awaited ids now.
+    pub awaited: usize,
+    /// Offices whose greatest number rose by more than their operations that came.
+    pub risen: Vec<Risen>,
+    /// The bytes of the register's file before, unless it would be too large.
+    pub bytes_before: Option<usize>,
+    /// The bytes of its file now, unless it would be too large.
+    pub bytes: Option<usize>,
+}
+
+// Whether the entry is of another office than the operation.
+fn is_of_another(op: &Op, entry: OpId) -> bool
+    ensures { result ≡ is_of_another op.now.id entry }
+{
+    !op.id().replica().cmp(&entry.replica()).is_eq()
+}
+
+// Whether the operation retires an entry of another office.
+fn retires_of_others(op: &Op) -> bool
+    ensures { result ≡ retires_of_others op.now }
+{
+    match op.body() {
+        OpBody::Enter(_) => false,
+        OpBody::Supersede { .. } => false,
+        OpBody::Retire { entry } => is_of_another(op, *entry),
+    }
+}
+
+fn count_retired(ops: &[Op]) -> usize
+    ensures { result ≡ count_by retires_of_others ops.now }
+{
+    ops.iter().filter(|op| retires_of_others(op)).count()
+}
+
+fn count_awaited(alloc: Global, register: &Register) -> Result<usize, AllocError>
+    ensures { IfOk result (λ n. n ≡ length (set.items (awaited register.now.ops))) }
+{
+    let ids = awaited(alloc, register)?;
+    Ok(ids.len())
+}
+
+// The length of the register's file, unless it would be too large.
+fn length_of(alloc: Global, register: &Register) -> Result<Option<usize>, AllocError>
+    ensures { IfOk result (IsLength register.now) }
+{
+    match write_bytes(alloc, register) {
+        Ok(bytes) => Ok(Some(bytes.len())),
+        Err(WriteFileFault::TooLarge) => Ok(None),
+        Err(_) => Err(AllocError),
+    }
+}
+
+/// What the second register has of this that the first one has not.
+pub fn hidden_in(alloc: Global, old: &Register, new: &Register) -> Result<Hidden, AllocError>
+    ensures { IfOk result (IsHidden old.now new.now) }
+{
+    let came = came(alloc, old, new)?;
+    let risen = offices_risen(alloc, old.seen(), &came)?;
+    let awaited_before = count_awaited(alloc, old)?;
+    let awaited = count_awaited(alloc, new)?;
+    let bytes_before = length_of(alloc, old)?;
+    let bytes = length_of(alloc, new)?;
+    Ok(Hidden {
+        retired: count_retired(came.ops().as_slice()),
+        awaited_before,
+        awaited,
+        risen,
+        bytes_before,
+        bytes,
+    })
+}

@@ -1,4 +1,0 @@
-pub mod Works
-pub mod Desk
-pub mod Worlds
-pub mod Again

@@ -1,5 +1,0 @@
-mod Steps
-pub mod Settled
-mod Candidates
-mod Kept
-mod Repeated

@@ -1,5 +1,0 @@
-pub mod Settling
-pub mod Doubles
-pub mod Names
-pub mod Keeping
-pub mod Texts

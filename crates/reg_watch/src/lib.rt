@@ -1,8 +1,0 @@
-//! A store that notes the register which a command loads, and the one which it keeps.
-#![tactic(auto)]
-
-mod telling;
-mod watched;
-
-pub use telling::{Told, change_and_tell};
-pub use watched::{Notes, Watched};

@@ -1,7 +1,0 @@
-mod Steps
-mod Firsts
-pub mod Nexts
-pub mod EachCut
-pub mod OneCut
-mod Skips
-pub mod Found

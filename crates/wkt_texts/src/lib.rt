@@ -1,8 +1,0 @@
-//! Splits a file into texts.
-#![tactic(auto)]
-
-mod counting;
-mod cutting;
-pub mod laws;
-
-pub use cutting::{Cut, begin, next_text, texts};
