@@ -40,7 +40,7 @@ pub trait SaidLast {
     fn say_last(&self, to: &StandardError<'_, '_>);
 }
 
-// The end of a command: `report` of `cli_outcome` decides what is printed, and in which order.
+// The end of a command: `report` of `cli_open` decides what is printed, and in which order.
 impl<F: Said, L: Said, B: SaidLast> Teller<F, L, B> for StandardError<'_, '_> {
     ghost fault_status = { F.status };
 

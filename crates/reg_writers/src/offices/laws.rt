@@ -74,7 +74,7 @@ pub fn a_stop_is_mended()
 {}
 
 /// A command that put its operations into the office file, and was stopped, is run again with the same effects and note. If the
-/// register lacks them, the command is found again: `Once` of `reg_again` then makes nothing, and leaves all that the office made.
+/// register lacks them, the command is found again: `Once` of `reg_commands` then makes nothing, and leaves all that the office made.
 pub fn a_command_is_found_again()
     ensures { (commands : ℕ → Command) (steps later : List Step) (k n : ℕ) (c : Copy) (effects : List Body) →
         let a = commands k in let d = after commands steps start in let e = after commands later d in let all = both c (e.world.files a.office) in
