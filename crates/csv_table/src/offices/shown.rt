@@ -22,7 +22,7 @@ pub fn named(alloc: Global, keeps: bool, names: &[Name], text: &[u8]) -> Result<
     Ok(out)
 }
 
-#[tactic(auto, using(crate::offices::proofs::ShownLemmas::skipped, crate::offices::proofs::ShownLemmas::taken))]
+#[tactic(auto, using(crate::proofs::ShownLemmas::skipped, crate::proofs::ShownLemmas::taken))]
 // Appends what stands in the place of the first byte, unless it is left out, and returns how many bytes after it are left out.
 fn push_next(
     out: &mut Vec<u8>,

@@ -120,7 +120,7 @@ pub(crate) fn made_before(
 }
 
 // So many ids of a replica from this number on; none if there is no memory for them.
-#[tactic(auto, using(crate::again::proofs::IdLemmas::one_more))]
+#[tactic(auto, using(crate::proofs::IdLemmas::one_more))]
 fn ids_from(alloc: Global, replica: Uuid, first: u32, count: usize) -> Option<Vec<OpId>>
     ensures { IfSome result (λ ids. ids.items ≡ ids_from replica first count) }
 {
