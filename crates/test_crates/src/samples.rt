@@ -1,8 +1,12 @@
-//! A text, and files, byte for byte as docs/FORMATS.md has them.
+//! Two texts, and files, byte for byte as docs/FORMATS.md has them.
 
 /// A vertical system, of 93 bytes.
 pub const HEIGHT: &[u8] =
     b"VERTCRS[\"H\",VDATUM[\"D\"],CS[vertical,1],AXIS[\"height (H)\",up],LENGTHUNIT[\"metre\",1],ID[\"X\",7]]";
+
+/// Another name and another code.
+pub const OTHER_HEIGHT: &[u8] =
+    b"VERTCRS[\"G\",VDATUM[\"D\"],CS[vertical,1],AXIS[\"height (H)\",up],LENGTHUNIT[\"metre\",1],ID[\"X\",8]]";
 
 /// The first replica.
 pub const OFFICE_A: u128 = 0x4000_8000_0000_0000_000a;

@@ -1,11 +1,12 @@
-//! A command on a shelf whose disk fails at each of its calls.
+//! Commands on a shelf, and one whose disk fails at each of its calls.
 
-use crate::samples::{EMPTY, ENTRY, HEIGHT, OFFICE_A};
+use crate::samples::{EMPTY, ENTRY, HEIGHT, OFFICE_A, OTHER_HEIGHT};
 use byte_disk::{MemDisk, Pending};
-use byte_io::{Full, Pieces, Room, Then};
-use reg_commands::run_enter_on;
+use byte_io::{Full, MemoryTarget, Pieces, Room, Then};
+use reg_commands::{run_enter_on, run_retire_on, run_supersede_on, run_unshelf};
 use reg_engine::{CliFault, ShelfProblem};
 use reg_file::write_bytes;
+use reg_op::OpId;
 use reg_shelf::{format, restore};
 use std::alloc::Global;
 use std::process::Abort;
@@ -75,4 +76,31 @@ fn each_call_of_entering_fails_in_turn(rt: HostRuntime) {
     disk.fail_at(CALLS);
     let (fault, _) = entered(alloc, &mut disk, HEIGHT, 100);
     assert_eq!(rt; fault, None);
+}
+
+// The lines of the third and the fourth id of the first replica.
+const LAST_IDS: &[u8] =
+    b"00000000-0000-4000-8000-00000000000a:3\n00000000-0000-4000-8000-00000000000a:4\n";
+
+// The first of two entries is superseded by the second, and then retired, so that the supersession is only seen.
+#[test]
+fn an_entry_is_superseded_and_retired_on_its_shelf(rt: HostRuntime) {
+    let alloc = rt.alloc();
+    let office = Uuid::from_u128(OFFICE_A);
+    let first = OpId::new(office, 1).expect(&rt, "an id");
+    let second = OpId::new(office, 2).expect(&rt, "an id");
+    let mut disk = shelf_of(&rt, alloc, 512);
+    for text in [HEIGHT, OTHER_HEIGHT] {
+        let (fault, _) = entered(alloc, &mut disk, text, 100);
+        assert_eq!(rt; fault, None);
+    }
+    let mut sink = Room::new(alloc, 7, 100, Full::Fails);
+    let done = run_supersede_on(alloc, &mut disk, office, first, &[second], "", &mut sink);
+    assert!(rt; done.is_ok());
+    let done = run_retire_on(alloc, &mut disk, office, &[first], "", &mut sink);
+    assert!(rt; done.is_ok());
+    assert_eq!(rt; sink.taken(), LAST_IDS);
+    let mut target = MemoryTarget::new(alloc, true);
+    assert!(rt; run_unshelf(alloc, &mut disk, &mut target).is_ok());
+    assert_eq!(rt; target.taken().len(), 322);
 }
