@@ -99,3 +99,12 @@ except OSError:
 sys.stderr.buffer.flush()
 sys.exit(run.wait())' "$@"
 }
+
+# cut_at N COMMAND..: runs the command with an output that takes N bytes, and says if these are not the first N of its output.
+cut_at() {
+    "${@:2}" >whole
+    (trap '' XFSZ; prlimit --fsize="$1" "${@:2}" >part)
+    local status=$?
+    head -c "$1" whole | cmp - part || return
+    return $status
+}

@@ -3,8 +3,6 @@
 
 mod rows;
 mod step;
-#[cfg(test)]
-mod tests;
 mod waiting;
 mod window;
 mod writing;

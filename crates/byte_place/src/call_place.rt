@@ -52,6 +52,13 @@ impl<S: System + Drop> CallPlace<S> {
         }
     }
 
+    /// The system whose calls it makes.
+    pub fn system(&self) -> &S
+        ensures { result.now ≡ self.now.system }
+    {
+        &self.system
+    }
+
     /// Begins anew over this system, if there is no new file: all files of the former one are closed, and their locks end.
     pub fn restart(&mut self, system: S)
         requires { calls (S.state system) ≡ [] }

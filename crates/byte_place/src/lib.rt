@@ -12,8 +12,6 @@ mod progress;
 mod rereading;
 mod steps;
 mod systems;
-#[cfg(test)]
-mod tests;
 mod waiting;
 mod way;
 mod within_place;

@@ -52,6 +52,13 @@ impl<S: System + Drop> WithinPlace<S> {
         }
     }
 
+    /// The system whose calls it makes.
+    pub fn system(&self) -> &S
+        ensures { result.now ≡ self.now.system }
+    {
+        &self.system
+    }
+
     // A file that was not read is not compared.
     fn settles(&mut self, is_read: bool)
         ensures same { ⟦<WithinPlace<S> as Place>⟧.state self.new ≡ ⟦<WithinPlace<S> as Place>⟧.state self.old }

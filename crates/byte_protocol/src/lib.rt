@@ -7,8 +7,6 @@ mod in_turn;
 mod laws;
 mod reading;
 mod replacing;
-#[cfg(test)]
-mod tests;
 mod within;
 
 pub use cuts::{

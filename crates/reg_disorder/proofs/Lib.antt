@@ -8,7 +8,7 @@ mod AmissLemmas
 mod Firsts
 pub mod Inheriting
 pub mod Allowed
-mod Listed
+mod LinksListed
 mod ForHeirs
 pub mod Rows
 pub mod Passes

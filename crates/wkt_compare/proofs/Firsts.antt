@@ -3,7 +3,7 @@ use Rattle.std.proofs.Common.{◌≡◌, ℕ, zero, suc, ◌+◌, ◌<◌, ◌�
 use Rattle.std.specs.Prelude.{count_by}
 use Rattle.wkt_compare.specs.Texts.{is_opening, is_closing, outside, IsFirstText}
 use Rattle.wkt_compare.specs.Counting.{text_len}
-use Rattle.wkt_compare.proofs.Steps.{Goes, Stands, does}
+use Rattle.wkt_compare.proofs.CutSteps.{Goes, Stands, does}
 
 -- the bytes are closed, given the numbers of delimiters that were opened and closed before them
 record Closed (opened closed : ℕ) (quoted : Bool) (bytes : List ℕ) : Type 0 where

@@ -4,7 +4,7 @@ mod TableLemmas
 mod ChoiceLemmas
 mod StepLemmas
 mod HunkLemmas
-mod Steps
+mod CutSteps
 mod Firsts
 pub mod Nexts
 pub mod EachCut

@@ -14,7 +14,7 @@ use Rattle.wkt_write.specs.WellFormed.{IsToken, IsText, WellFormed, SomeWellForm
 use Rattle.wkt_grammar.specs.Render.{render, render_all, render_behind}
 use Rattle.wkt_compare.specs.Texts.{is_opening, is_closing}
 use Rattle.wkt_compare.specs.Counting.{text_len}
-use Rattle.wkt_compare.proofs.Steps.{at_other, at_closing, at_last}
+use Rattle.wkt_compare.proofs.CutSteps.{at_other, at_closing, at_last}
 
 -- the text continues after the bytes, with the same count
 abbrev Passes : ℕ → List ℕ → Type 0

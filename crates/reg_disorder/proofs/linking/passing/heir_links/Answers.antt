@@ -1,5 +1,5 @@
 use Rattle.std.proofs.Common.{sym, ◌∙◌}
-use Rattle.reg_disorder.proofs.Listed.{none_cut, all_listed}
+use Rattle.reg_disorder.proofs.LinksListed.{none_cut, all_listed}
 use Rattle.reg_disorder.proofs.linking.passing.heir_links.Goals as goal
 
 pub returns-then-not-some_cut : goal.returns-then-not-some_cut

@@ -1,0 +1,4 @@
+//! Tests of disks, and of shelves of bytes.
+
+mod files;
+mod stops;
