@@ -1,9 +1,31 @@
 #!/bin/sh
-# Installs crsreg: ./install.sh [PREFIX]. The default of PREFIX is /usr/local. If DESTDIR is set, all files go below that folder, as for
-# a package. It installs the program in CRSREG_PROGRAM. By default this is crsreg-static, which needs no C library, if the release is of
-# these sources, and otherwise the one that ./crsreg --which prints. ./install.sh --list [PREFIX] prints the path of each file that it
-# installs: remove these to uninstall crsreg.
+# Installs crsreg.
+#
+# usage: ./install.sh [--list] [PREFIX]
+#
+# The default of PREFIX is /usr/local. If DESTDIR is set, all files go below that folder, as for a package. With --list it prints the path
+# of each file that it installs: remove these to uninstall crsreg.
+#
+# Reads:  the program in CRSREG_PROGRAM. By default this is crsreg-static, which needs no C library, if the release is of these sources, and
+#         otherwise the one that ./crsreg --which prints.
+# Writes: the program, its manual pages, its completions, its notices and the scripts of share/, below PREFIX.
+# Needs:  nothing else; the released program is for Linux on x86-64.
 set -eu
+
+# The lines above.
+about() {
+    sed -n '1d; /^#/!q; s/^# \{0,1\}//p' "$0"
+}
+
+case ${1-} in
+--help | -h) about && exit ;;
+--list) list=yes && shift ;;
+*) list=no ;;
+esac
+case ${1-} in
+-*) about | grep '^usage: ' >&2 && exit 2 ;;
+esac
+prefix=${1-/usr/local}
 root=$(cd "$(dirname "$0")" && pwd)
 release=$root/release/x86_64-linux-gnu
 
@@ -16,12 +38,6 @@ default_program() {
         "$root/crsreg" --which
     fi
 }
-
-case ${1-} in
---list) list=yes && shift ;;
-*) list=no ;;
-esac
-prefix=${1-/usr/local}
 
 if [ $list = no ]; then
     program=${CRSREG_PROGRAM:-$(default_program)}

@@ -1,8 +1,9 @@
-"""What the scripts of this folder share: the texts of a register, as crsreg exports them, and PROJ's library."""
+"""What the scripts of this folder share: their help, the texts of a register, as crsreg exports them, and PROJ's library."""
 import ctypes
 import ctypes.util
 import os
 import re
+import signal
 import subprocess
 import sys
 import tempfile
@@ -10,6 +11,26 @@ from pathlib import Path
 
 PIECE = re.compile(r'"(?:[^"]|"")*"|[\[\](),]|[^"\[\](),]+')
 VERTICAL = ("VERTCRS", "VERTICALCRS")
+
+
+# ---- the command line
+
+def arguments(about, least):
+    """The arguments of the script. With --help it prints what it is about and ends; with fewer than this it prints its usage and ends."""
+    given = sys.argv[1:]
+    if given[:1] in (["--help"], ["-h"]):
+        signal.signal(signal.SIGPIPE, signal.SIG_DFL)  # (for `| head`)
+        print(about.strip())
+        sys.exit(0)
+    if len(given) < least:
+        wrong_usage(about)
+    return given
+
+
+def wrong_usage(about):
+    """Prints the line of usage, and ends."""
+    print(next(line for line in about.splitlines() if line.startswith("usage: ")), file=sys.stderr)
+    sys.exit(2)
 
 
 # ---- texts
