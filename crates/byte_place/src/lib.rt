@@ -9,21 +9,18 @@ mod path_opening;
 mod path_place;
 mod path_putting;
 mod progress;
-mod rereading;
 mod steps;
 mod systems;
 #[cfg(test)]
 mod tests;
 mod waiting;
 mod way;
-mod within_place;
 
 pub use byte_system::HostSystem;
 pub use call_place::CallPlace;
-pub use laws::{calls_on_out_are_steps, its_calls_are_a_path, its_calls_are_a_round};
+pub use laws::{calls_on_out_are_steps, its_calls_are_a_path, what_is_put_replaced};
 pub use new_place::NewPlace;
 pub use out_place::OutPlace;
 pub use path_place::PathPlace;
 pub use progress::ReserveFault;
 pub use systems::{HostSystems, SystemSource};
-pub use within_place::WithinPlace;

@@ -1,4 +1,4 @@
-//! Waits until no other command has the new file, or writes the old one in place.
+//! Waits until no other command has the new file.
 //!
 //! A lock of the system that waits has no limit, and the lock of a file that was renamed says nothing about the name. So a command
 //! sleeps, and makes its new file as soon as the name is free.
@@ -8,10 +8,8 @@ ghost use Rattle.std.specs.Prelude.{◌≡◌};
 use crate::call_place::CallPlace;
 use crate::progress::ReserveFault;
 use crate::systems::SystemSource;
-use crate::way::is_written;
-use byte_out::Lockable;
 use byte_system::System;
-use std::rt::{Clock, Files};
+use std::rt::Clock;
 use std::thread::sleep;
 use std::time::Duration;
 
@@ -37,7 +35,7 @@ pub(crate) fn reserve_in<R: Clock, S: System + Drop, M: SystemSource<S>>(
             Err(fault) => return Err(fault),
         }
         if !is_within(rt, start, wait) {
-            return Err(ReserveFault::Exists);
+            break;
         }
         sleep(rt, Duration::from_millis(PAUSE));
         match source.system() {
@@ -45,29 +43,28 @@ pub(crate) fn reserve_in<R: Clock, S: System + Drop, M: SystemSource<S>>(
             Err(_) => return Err(ReserveFault::NotOpened),
         }
     }
-    Err(ReserveFault::Exists)
+    reserve_now(source, call)
 }
 
-/// Waits while another command writes the file at the path in place, at most this long since the start. Returns whether nobody does.
-pub(crate) fn is_left<R: Files + Clock>(
-    rt: &R,
-    path: &str,
-    start: Option<Duration>,
-    wait: Duration,
-) -> bool
-where
-    R::File: Lockable,
+/// Makes the new file, without waiting for another command. One that a stopped process left is told from one of a process that has
+/// just begun.
+pub(crate) fn reserve_now<S: System + Drop, M: SystemSource<S>>(
+    source: &M,
+    call: &mut CallPlace<S>,
+) -> Result<(), ReserveFault>
+    ensures out { call.new.out ≡ call.old.out }
+    ensures beside { call.new.beside ≡ call.old.beside }
 {
-    for _ in 0..u64::MAX {
-        if !is_written(rt, path) {
-            return true;
-        }
-        if !is_within(rt, start, wait) {
-            return false;
-        }
-        sleep(rt, Duration::from_millis(PAUSE));
+    match call.reserve() {
+        Err(ReserveFault::Exists) => {}
+        Err(fault) => return Err(fault),
+        Ok(()) => return Ok(()),
     }
-    false
+    match source.after_waiting() {
+        Ok(system) => call.restart(system),
+        Err(_) => return Err(ReserveFault::NotOpened),
+    }
+    call.reserve()
 }
 
 // Whether less time than this has passed since the start. A clock that fails ends the wait.

@@ -1,7 +1,6 @@
 //! `replace` beside a second process, which acts between its calls.
 
 use crate::replacing::{Fault, replace};
-use crate::within::{OverwriteFault, write_within};
 use byte_system::{Act, Does, MemSystem, Mode};
 use std::alloc::{AllocError, Global};
 use std::test::Fail;
@@ -86,64 +85,6 @@ fn replaces_unread(alloc: Global) -> Result<bool, AllocError> {
     let mut system = MemSystem::new(alloc, 1, acts, Vec::new(alloc));
     let result = replace(&mut system, b"out", b"new", Mode::Usual, None, b"mine");
     Ok(result == Ok(()) && system.read(b"out") == Some(b"mine"))
-}
-
-// Writes "mine" in the place of "old", where the calls of these numbers fail. Whether that ends so, and leaves these bytes.
-fn overwrites(
-    alloc: Global,
-    second: Second,
-    fails: &[usize],
-    want: Result<(), OverwriteFault>,
-    left: &[u8],
-) -> Result<bool, AllocError> {
-    let mut acts = Vec::new(alloc);
-    acts_of(alloc, &mut acts, second)?;
-    let fails = fails.to_vec(alloc)?;
-    let mut system = MemSystem::new(alloc, 1, acts, fails);
-    let result = write_within(&mut system, b"out", Some(b"old"), b"mine");
-    Ok(result == want && system.read(b"out") == Some(left))
-}
-
-#[test]
-fn writes_in_place(rt: HostRuntime) -> Result<(), Fail> {
-    assert!(rt; overwrites(rt.alloc(), Second::Nothing, &[], Ok(()), b"mine")?);
-    assert!(rt;
-        overwrites(
-            rt.alloc(),
-            Second::Nothing,
-            &[1],
-            Err(OverwriteFault::NotOpened),
-            b"old"
-        )?
-    );
-    assert!(rt;
-        overwrites(
-            rt.alloc(),
-            Second::WritesToOut(3),
-            &[],
-            Err(OverwriteFault::Changed),
-            b"old!"
-        )?
-    );
-    assert!(rt;
-        overwrites(
-            rt.alloc(),
-            Second::Nothing,
-            &[4],
-            Err(OverwriteFault::NotEmptied),
-            b"old"
-        )?
-    );
-    assert!(rt;
-        overwrites(
-            rt.alloc(),
-            Second::Nothing,
-            &[5],
-            Err(OverwriteFault::NotWritten(2)),
-            b"mi"
-        )?
-    );
-    Ok(())
 }
 
 #[test]

@@ -94,7 +94,7 @@ pub fn write_busy<W: fmt::Write>(f: &mut fmt::Formatter<W>, office: FileName<'_>
     let new = NewBeside(path);
     writeln!(
         f,
-        "{new} is there: another command of this office works\nhint: run this command again; if no crsreg runs, remove {new}"
+        "{new} is there: another command of this office works, or was stopped on another machine\nhint: run this command again; if no crsreg runs on any machine, remove {new}"
     )
 }
 

@@ -65,7 +65,7 @@ fn write_new_exists<W: fmt::Write>(f: &mut fmt::Formatter<W>, paths: &Paths<'_>)
             let new = NewBeside(paths.out);
             writeln!(
                 f,
-                "{new} is there: another command writes {out}\nhint: run this command again; if no crsreg runs, remove {new}"
+                "{new} is there: another command writes {out}, or was stopped on another machine\nhint: run this command again; if no crsreg runs on any machine, remove {new}"
             )
         }
     }

@@ -8,7 +8,7 @@ mod opening;
 mod store;
 mod trying;
 
-pub use byte_office::{NewStdPlace, OfficeFileFault};
+pub use byte_office::OfficeFileFault;
 pub use making::run_office;
 pub use opening::{busy, lock_office, office_in, unopened};
 pub use reg_engine as engine;
