@@ -14,14 +14,12 @@ mod steps;
 mod systems;
 mod waiting;
 mod way;
-mod within_place;
 
 pub use byte_system::HostSystem;
 pub use call_place::CallPlace;
-pub use laws::{calls_on_out_are_steps, its_calls_are_a_path, its_calls_are_a_round};
+pub use laws::{calls_on_out_are_steps, its_calls_are_a_path, what_is_put_replaced};
 pub use new_place::NewPlace;
 pub use out_place::OutPlace;
 pub use path_place::PathPlace;
 pub use progress::ReserveFault;
 pub use systems::{HostSystems, SystemSource};
-pub use within_place::WithinPlace;

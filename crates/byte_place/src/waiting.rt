@@ -1,4 +1,4 @@
-//! Waits until no other command has the new file, or writes the old one in place.
+//! Waits until no other command has the new file.
 //!
 //! A lock of the system that waits has no limit, and the lock of a file that was renamed says nothing about the name. So a command
 //! sleeps, and makes its new file as soon as the name is free.
@@ -8,10 +8,8 @@ ghost use Rattle.std.specs.Prelude.{◌≡◌};
 use crate::call_place::CallPlace;
 use crate::progress::ReserveFault;
 use crate::systems::SystemSource;
-use crate::way::is_written;
-use byte_out::Lockable;
 use byte_system::System;
-use std::rt::{Clock, Files};
+use std::rt::Clock;
 use std::thread::sleep;
 use std::time::Duration;
 
@@ -46,28 +44,6 @@ pub(crate) fn reserve_in<R: Clock, S: System + Drop, M: SystemSource<S>>(
         }
     }
     Err(ReserveFault::Exists)
-}
-
-/// Waits while another command writes the file at the path in place, at most this long since the start. Returns whether nobody does.
-pub(crate) fn is_left<R: Files + Clock>(
-    rt: &R,
-    path: &str,
-    start: Option<Duration>,
-    wait: Duration,
-) -> bool
-where
-    R::File: Lockable,
-{
-    for _ in 0..u64::MAX {
-        if !is_written(rt, path) {
-            return true;
-        }
-        if !is_within(rt, start, wait) {
-            return false;
-        }
-        sleep(rt, Duration::from_millis(PAUSE));
-    }
-    false
 }
 
 // Whether less time than this has passed since the start. A clock that fails ends the wait.

@@ -3,10 +3,10 @@
 
 ghost use Rattle.std.specs.Prelude.{◌≡◌, ◌≤◌, length};
 
-use crate::host_answers::{make_fault, permissions, rename_fault, there_is};
+use crate::host_answers::{make_fault, permissions, there_is};
 use crate::host_system::{HostSystem, Opened};
-use crate::system::{FileReadFault, FolderSyncFault, Mode, NewFileFault, RenameFault, There};
-use byte_out::make_alike;
+use crate::likeness::make_alike;
+use crate::system::{Failed, FileReadFault, FolderSyncFault, Mode, NewFileFault, There};
 use std::fs::{self, File, Metadata, OpenFile, OpenOptions, TryLockError};
 use std::io::{ErrorKind, Read, Write};
 use std::os::unix::fs::{MetadataExt, OpenOptionsExt};
@@ -53,8 +53,8 @@ impl HostSystem<'_> {
         None
     }
 
-    /// Whether the open file is open to the same people as the one with the name from now on; none if it could not be changed.
-    pub(crate) fn likens(&self, file: usize, path: &[u8]) -> Option<bool> {
+    /// Opens the open file to the same people as the one with the name; none if that failed.
+    pub(crate) fn likens(&self, file: usize, path: &[u8]) -> Option<()> {
         let old = fs::symlink_metadata(self.rt, str::from_utf8(path).ok()?).ok()?;
         make_alike(&self.open.get(file)?.file, &old).ok()
     }
@@ -77,8 +77,14 @@ impl HostSystem<'_> {
             .open(self.rt, path)
         {
             Ok(file) => self.number_made(file, path),
+            // Some file systems of networks answer that a file that is there is forbidden.
+            Err(_) if self.is_there(path) => Err(NewFileFault::Exists),
             Err(error) => Err(make_fault(error.kind())),
         }
+    }
+
+    fn is_there(&self, path: &str) -> bool {
+        fs::symlink_metadata(self.rt, path).is_ok()
     }
 
     // The number of a file that was made. One that gets none is removed.
@@ -131,20 +137,34 @@ impl HostSystem<'_> {
             Ok(mut file) => gives(&mut file, bytes),
             Err(error) => match error.kind() {
                 ErrorKind::NotFound => Ok(false),
-                ErrorKind::PermissionDenied => Err(FileReadFault::Forbidden),
                 _ => Err(FileReadFault::NotOpened),
             },
         }
     }
 
-    /// Renames a file. Nothing is done if the two names are one.
-    pub(crate) fn renames(&self, from: &[u8], to: &[u8]) -> Result<(), RenameFault> {
-        match (str::from_utf8(from), str::from_utf8(to)) {
-            (Ok(from), Ok(to)) if from != to => match fs::rename(self.rt, from, to) {
-                Ok(()) => Ok(()),
-                Err(error) => Err(rename_fault(error.kind())),
-            },
-            _ => Err(RenameFault::NotRenamed),
+    /// Renames a file. Nothing is done if the two names are one. A network may answer a rename that is done with a fault; and some file
+    /// systems move the file that is replaced aside first, and then fail. So a rename that failed is looked at, and done once more if
+    /// nothing has the new name.
+    pub(crate) fn renames(&self, from: &[u8], to: &[u8]) -> Result<(), Failed> {
+        let (Ok(from), Ok(to)) = (str::from_utf8(from), str::from_utf8(to)) else {
+            return Err(Failed);
+        };
+        if from == to {
+            return Err(Failed);
+        }
+        let file = fs::symlink_metadata(self.rt, from);
+        if fs::rename(self.rt, from, to).is_ok() {
+            return Ok(());
+        }
+        match (file, fs::symlink_metadata(self.rt, to)) {
+            (Ok(file), Ok(there)) if is_same(&file, &there) => Ok(()),
+            (Ok(_), Err(fault)) if fault.kind() == ErrorKind::NotFound => {
+                match fs::rename(self.rt, from, to) {
+                    Ok(()) => Ok(()),
+                    Err(_) => Err(Failed),
+                }
+            }
+            _ => Err(Failed),
         }
     }
 

@@ -5,9 +5,7 @@ ghost use Rattle.byte_system.specs.System.{Took};
 ghost use Rattle.byte_system.specs.Noted.{call_said};
 
 use crate::host_files::write_to;
-use crate::system::{
-    Failed, FileReadFault, FolderSyncFault, Mode, NewFileFault, RenameFault, System, There,
-};
+use crate::system::{Failed, FileReadFault, FolderSyncFault, Mode, NewFileFault, System, There};
 use crate::trail::{Note, Said, Trail};
 use std::alloc::{AllocError, Global};
 use std::fs::{File, OpenFile};
@@ -93,10 +91,6 @@ impl System for HostSystem<'_> {
                 self.note(Said::Makes(path, None));
                 Err(NewFileFault::Exists)
             }
-            Err(NewFileFault::Forbidden) => {
-                self.note(Said::Fails);
-                Err(NewFileFault::Forbidden)
-            }
             Err(NewFileFault::NotMade) => {
                 self.note(Said::Fails);
                 Err(NewFileFault::NotMade)
@@ -104,13 +98,13 @@ impl System for HostSystem<'_> {
         }
     }
 
-    fn make_alike(&mut self, file: usize, path: &[u8]) -> Result<bool, Failed> {
-        let Some(is_alike) = self.likens(file, path) else {
+    fn make_alike(&mut self, file: usize, path: &[u8]) -> Result<(), Failed> {
+        let Some(_) = self.likens(file, path) else {
             self.note(Said::Fails);
             return Err(Failed);
         };
         self.note(Said::Likens(file, path));
-        Ok(is_alike)
+        Ok(())
     }
 
     fn open(&mut self, path: &[u8]) -> Result<usize, Failed> {
@@ -149,19 +143,6 @@ impl System for HostSystem<'_> {
         written
     }
 
-    fn truncate(&mut self, file: usize) -> Result<(), Failed> {
-        let is_empty = match self.open.get(file) {
-            Some(opened) => opened.file.set_len(0).is_ok(),
-            None => false,
-        };
-        if !is_empty {
-            self.note(Said::Fails);
-            return Err(Failed);
-        }
-        self.note(Said::Truncates(file));
-        Ok(())
-    }
-
     fn sync(&mut self, file: usize) -> Result<(), Failed> {
         let is_synced = match self.open.get(file) {
             Some(opened) => opened.file.sync_all().is_ok(),
@@ -188,7 +169,7 @@ impl System for HostSystem<'_> {
         }
     }
 
-    fn rename(&mut self, from: &[u8], to: &[u8]) -> Result<(), RenameFault> {
+    fn rename(&mut self, from: &[u8], to: &[u8]) -> Result<(), Failed> {
         if let Err(fault) = self.renames(from, to) {
             self.note(Said::Fails);
             return Err(fault);

@@ -6,6 +6,7 @@ mod files;
 mod host_answers;
 mod host_files;
 mod host_system;
+mod likeness;
 mod mem_system;
 mod open_files;
 mod system;
@@ -13,6 +14,4 @@ mod trail;
 
 pub use host_system::HostSystem;
 pub use mem_system::{Act, Does, MemSystem};
-pub use system::{
-    Failed, FileReadFault, FolderSyncFault, Mode, NewFileFault, RenameFault, System, There,
-};
+pub use system::{Failed, FileReadFault, FolderSyncFault, Mode, NewFileFault, System, There};

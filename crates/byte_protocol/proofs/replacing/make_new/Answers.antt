@@ -9,9 +9,3 @@ returns-in-Err-NotMade-make-clause-fault g c =
     let left = Some c.in-Ok-sweep.left in
     let made : calls (g.S.System.state c.make-2.new.self) ≡ Fails ∷ begun c.args.new.now left (calls (g.S.System.state c.args.system.now)) = search rules in
     (left, made)
-
-pub returns-in-Err-Forbidden-make-clause-fault : goal.returns-in-Err-Forbidden-make-clause-fault
-returns-in-Err-Forbidden-make-clause-fault g c =
-    let left = Some c.in-Ok-sweep.left in
-    let made : calls (g.S.System.state c.make-2.new.self) ≡ Fails ∷ begun c.args.new.now left (calls (g.S.System.state c.args.system.now)) = search rules in
-    (left, made)
