@@ -115,14 +115,17 @@ pub fn downgrade(rt: &HostRuntime, matches: &ArgMatches<'_>) -> Result<(), CliFa
     give_of(rt, register, &mut FirstVersion, place)
 }
 
+/// The size of the new shelf, if a shelf may have it.
+pub fn shelf_size(matches: &ArgMatches<'_>) -> Option<u32> {
+    let size = word(matches, "SIZE").parse::<u32>().ok()?;
+    if is_size(size) { Some(size) } else { None }
+}
+
 /// `shelf`. A size that is not a number is refused like a size out of range.
 pub fn shelf(rt: &HostRuntime, matches: &ArgMatches<'_>) -> Result<(), CliFault> {
-    let Ok(size) = word(matches, "SIZE").parse::<u32>() else {
+    let Some(size) = shelf_size(matches) else {
         return Err(CliFault::Refused(Refusal::BadSize));
     };
-    if !is_size(size) {
-        return Err(CliFault::Refused(Refusal::BadSize));
-    }
     let path = word(matches, "NEW");
     // The lock ends with the file, when the shelf is whole.
     let _lock = lock_new_shelf(rt, path)?;

@@ -10,5 +10,5 @@ mod taking;
 
 pub use brought::{Gained, say_gained};
 pub use cli_faults as faults;
-pub use exchange::{downgrade, merge, new, piece, seen, shelf, unshelf};
+pub use exchange::{downgrade, merge, new, piece, seen, shelf, shelf_size, unshelf};
 pub use taking::{Taken, take};

@@ -203,7 +203,7 @@ fn looks_at(rt: &HostRuntime, path: &str) -> Looks {
 }
 
 fn is_office(rt: &HostRuntime, path: &str) -> Option<bool> {
-    let head = FileHead::at(rt, path)?;
+    let head = FileHead::at(rt, path).ok()??;
     Some(head.is_office())
 }
 

@@ -13,8 +13,8 @@ use cli_open::{
 };
 use reg_desk::{
     CliFault, Comparison, Explained, FileDisk, Find, FindIds, Kind, LateAt, Lockable, LogAll,
-    LogByWords, LogOf, Offices, OpenedDisk, Point, Query, Reading, Recorded, ShelfAt, Source,
-    Writing, run_check, run_check_explained, run_diff, run_status,
+    LogByWords, LogOf, Offices, OpenedDisk, Point, Query, Reading, Recorded, ShelfAt, ShelfProblem,
+    Source, Writing, run_check, run_check_explained, run_diff, run_status,
 };
 use reg_news::gained::hidden_in;
 use reg_texts::Texts;
@@ -206,7 +206,7 @@ fn files_at<'a, R: Files>(
     Ok(files)
 }
 
-// Opens all shelves that can be opened.
+// Opens all shelves that can be opened, unless another command has one.
 fn opened_shelves<R: Files>(
     rt: &R,
     alloc: Global,
@@ -219,7 +219,8 @@ where
     for path in paths {
         let shelf = match open_to_read(rt, *path) {
             Ok(disk) => OpenedDisk::Source(disk),
-            Err(_) => OpenedDisk::NotOpened,
+            Err(CliFault::Shelf(problem)) => OpenedDisk::Unopened(problem),
+            Err(_) => OpenedDisk::Unopened(ShelfProblem::NotOpened),
         };
         shelves.push(ShelfAt { opened: shelf })?;
     }

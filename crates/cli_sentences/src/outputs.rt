@@ -19,7 +19,7 @@ pub fn write<W: fmt::Write>(
         OutFault::WriteFailed(written) => write_failed(f, written, is_written, paths),
         OutFault::ReadFailed(read) => writeln!(
             f,
-            "{out} could be read again for {read} bytes only, so it was not replaced"
+            "{out} could be read for {read} bytes only, so it was not replaced"
         ),
         OutFault::Changed => {
             writeln!(
