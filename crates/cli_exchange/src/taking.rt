@@ -53,11 +53,16 @@ fn joined(taken: Result<TakeEffect, CliFault>) -> Taken
                 before,
                 after,
                 left,
+                retired,
             } = effect;
             Ok(Done {
                 left,
                 differs: false,
-                brought: Some(Gained { before, after }),
+                brought: Some(Gained {
+                    before,
+                    after,
+                    retired,
+                }),
             })
         }
         Err(fault) => Err(NotDone::Fault(fault)),

@@ -23,6 +23,12 @@ pub fn has_namesake(alloc: Global, register: &Register, entry: OpId) -> Option<b
     Some(false)
 }
 
+/// Whether the register has an entry of the word that is not retired. None if memory runs out.
+pub fn shows(alloc: Global, register: &Register, word: &[u8]) -> Option<bool> {
+    let rows = rows(alloc, register).ok()?;
+    Some(rows.iter().any(|row| is_live(row) && has_key(row, word)))
+}
+
 // The key of the row as a word.
 fn word_of(alloc: Global, row: &Row) -> Result<Vec<u8>, AllocError> {
     let key = row.definition.key();

@@ -25,7 +25,7 @@ pub fn explain_word(
 }
 
 fn explain_in(rt: &HostRuntime, fault: CliFault, word: &str, named: &CommandFiles<'_>) {
-    let second = SecondLook::look(rt, named, &fault);
+    let second = SecondLook::look(rt, named, &fault, word);
     let sentence = Sentence {
         fault,
         found: second.found_for(word),

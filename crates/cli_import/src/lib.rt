@@ -4,7 +4,9 @@
 mod brought;
 mod entering;
 mod importing;
+mod own_file;
 mod settling;
+mod texts;
 mod tried;
 
 pub use brought::{Brought, say_brought};

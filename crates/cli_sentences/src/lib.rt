@@ -10,7 +10,7 @@ mod refusals;
 mod shelves;
 mod shown;
 
-pub use imports::{KeyTaken, LEAVES_OUT};
+pub use imports::{KeyTaken, LEAVES_OUT, TAKE_JOINS};
 pub use paths::{FileName, Findings, Looks, Paths, SpecialCommand};
 use reg_guard::OfficeFileFault;
 use reg_guard::engine::CliFault;

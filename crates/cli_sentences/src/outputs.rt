@@ -15,7 +15,9 @@ pub fn write<W: fmt::Write>(
     match fault {
         OutFault::NotOpened => write_not_opened(f, paths),
         OutFault::NewExists => write_new_exists(f, paths),
-        OutFault::TooLarge => f.write_str("the new file would have more than 67,108,864 bytes\n"),
+        OutFault::TooLarge => f.write_str(
+            "the new file would have more than 67,108,864 bytes\nhint: equal texts of several offices all count: let one office import an authority and the others take its register, or keep a register for each authority\n",
+        ),
         OutFault::WriteFailed(written) => write_failed(f, written, is_written, paths),
         OutFault::ReadFailed(read) => writeln!(
             f,

@@ -20,7 +20,7 @@ use Rattle.crs_export.specs.declared.title.Title.{Title}
 use Rattle.crs_export.specs.declared.markup.TheConstants.{GRAPH_START, GRAPH_END, VALID_COLOR, SUPERSEDED_COLOR, RETIRED_COLOR}
 use Rattle.crs_export.specs.Graphs.{node, caption, edge, rivals}
 use Rattle.crs_export.specs.Drawing.{Statement, node_statement, caption_statement, edge_statement, rivals_statement, graph_statements}
-use Rattle.reg_export.specs.Titles.{IsTitle, Each}
+use Rattle.reg_export.specs.Titles.{IsLabel, Each}
 
 abbrev pub color_of : Option Status → List ℕ
 color_of None = []
@@ -51,7 +51,7 @@ abbrev pub IsDrawn : Bool → List Id → Row → Type 0
 IsDrawn all ids r = (all ≡ true) ⊎ Contains ids r.entry
 
 abbrev pub IsNodeOf : Bool → List Id → Row → List ℕ → Type 0
-IsNodeOf all ids r bytes = (IsDrawn all ids r × ((t : Title) × IsTitle r t × (bytes ≡ node t (color_of r.status)))) ⊎ ((¬ (IsDrawn all ids r)) × (bytes ≡ []))
+IsNodeOf all ids r bytes = (IsDrawn all ids r × ((t : Title) × IsLabel r t × (bytes ≡ node t (color_of r.status)))) ⊎ ((¬ (IsDrawn all ids r)) × (bytes ≡ []))
 
 -- what is read in the place of an id: it has the name of its office, if there is one
 abbrev pub named : List Name → Id → List ℕ
@@ -114,7 +114,7 @@ IsGraph all names x text = (cs : List Contested) × AreConflicts (rows x.ops) cs
 
 -- the statement of the row's node, if the row's entry is drawn
 abbrev pub IsNodeStatement : Bool → List Id → Row → List Statement → Type 0
-IsNodeStatement all ids r ss = (IsDrawn all ids r × ((t : Title) × IsTitle r t × (ss ≡ node_statement t (color_of r.status) ∷ []))) ⊎ ((¬ (IsDrawn all ids r)) × (ss ≡ []))
+IsNodeStatement all ids r ss = (IsDrawn all ids r × ((t : Title) × IsLabel r t × (ss ≡ node_statement t (color_of r.status) ∷ []))) ⊎ ((¬ (IsDrawn all ids r)) × (ss ≡ []))
 
 abbrev pub label_statements_for : List ℕ → List ℕ → List Statement
 label_statements_for id read = if bytes_eq read id then [] else caption_statement id read ∷ []

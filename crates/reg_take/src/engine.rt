@@ -44,7 +44,8 @@ fn keep_changed<T: Keep, K: Sink>(
 /// Loads the register, reads the files, and joins the register or piece of each to the register that the store admits; keeps the result if it differs
 /// from the loaded one, and then writes the rows that changed. Returns the register before and after, and the files that are left
 /// out: with `keep_going` those that cannot be read, that have forged numbers of the office, that clash, or whose basis is not held.
-/// Otherwise the first such file ends the command. Where offices are named, their operations alone are joined.
+/// Otherwise the first such file ends the command. Where offices are named, their operations alone are joined, and the entries that are
+/// retired in the files are returned.
 pub fn run_take<T: Keep, S: LateSource, K: Sink>(
     alloc: Global,
     store: &mut T,
@@ -61,6 +62,7 @@ pub fn run_take<T: Keep, S: LateSource, K: Sink>(
     let Loaded {
         register: before,
         arrivals,
+        retired,
         base,
     } = match load_all(alloc, store, files, options) {
         Ok(loaded) => loaded,
@@ -80,6 +82,7 @@ pub fn run_take<T: Keep, S: LateSource, K: Sink>(
             before,
             after,
             left,
+            retired,
         }),
         Err(fault) => Err(fault),
     }
@@ -102,6 +105,7 @@ pub fn try_take<T: Store, S: LateSource, K: Sink>(
     let Loaded {
         register: before,
         arrivals,
+        retired,
         base,
     } = match load_all(alloc, store, files, options) {
         Ok(loaded) => loaded,
@@ -121,6 +125,7 @@ pub fn try_take<T: Store, S: LateSource, K: Sink>(
             before,
             after,
             left,
+            retired,
         }),
         Err(fault) => Err(fault),
     }

@@ -44,6 +44,7 @@ returns-in-Ok-tell-clause-taken g c =
       (l.arrivals.items, c.in-Ok.ensures.loaded.1, takes.0, takes.1),
       c.in-Ok-make_ready.ensures.lines,
       (c.in-Ok.ensures.loaded.0, all),
+      c.in-Ok.ensures.loaded.3,
     )
 
 pub returns-in-Err-tell-clause-fault : goal.returns-in-Err-tell-clause-fault
