@@ -6,7 +6,7 @@ use Rattle.reg_import.specs.Listing.{WritesLines}
 use Rattle.reg_import.proofs.listing.write_entries.Given as goal
 
 abbrev pub invariant-loop-row : goal.invariant-loop-row
-invariant-loop-row l = (done : List Row) × (map row_seen l.rows ≡ done ++ map row_seen l.rest) × WritesLines (IsEntryLine l.action) done l.initial.wtr l.wtr
+invariant-loop-row l = (done : List Row) × (map (λ r. row_seen r.now) l.rows ≡ done ++ map (λ r. row_seen r.now) l.rest) × WritesLines (IsEntryLine l.action) done l.initial.wtr l.wtr
 
 abbrev pub decreases-loop-row : goal.decreases-loop-row
 decreases-loop-row l = length l.rest
