@@ -4,7 +4,6 @@ mod HiddenLemmas
 mod CharacterLemmas
 pub mod PlaceLemmas
 pub mod JoinLemmas
-pub mod ShortLemmas
 pub mod PageLemmas
 pub mod WordLemmas
 mod UnmarkedLemmas

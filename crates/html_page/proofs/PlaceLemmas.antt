@@ -7,8 +7,8 @@ use Rattle.html_page.specs.Pieces.{Piece, Markup, Text, Lines, Short, Attribute,
 use Rattle.html_page.specs.Places.{Context, Content, Name, Tag, Equals, Quoted, Raw, Expects, Lost, may_hold, may_draw, step, after, tag_byte, tags_from, past, past_all}
 use Rattle.html_page.specs.declared.marks.Feeds.TheVariants.{Marked, Kept}
 use Rattle.html_page.specs.Marks.{marked}
-use Rattle.html_page.specs.Short.{first_characters, short}
-use Rattle.html_page.specs.declared.short.TheConstants.{MOST, MORE}
+use Rattle.html_page.specs.Short.{short}
+use Rattle.text_hidden.specs.Short.{shortened}
 use Rattle.html_page.proofs.EscapedLemmas.{inert}
 
 after-append : (p : Context) (xs ys : List ℕ) → after p (xs ++ ys) ≡ after (after p xs) ys
@@ -76,14 +76,14 @@ stays-append {p = p} {xs = xs} {ys = ys} one two = record {
   no_tag = tags-append p xs ys ∙ (λ j. one.no_tag j ++ tags_from (one.place j) ys) ∙ two.no_tag;
 }
 
-more_stays : (b : Bool) → Stays Content (if b then MORE.now else [])
+more_stays : (b : Bool) → Stays Content (if b then 226 ∷ 128 ∷ 166 ∷ [] else [])
 more_stays true = record { place = refl; no_tag = refl }
 more_stays false = record { place = refl; no_tag = refl }
 
 short_passes : (text : List ℕ) (there : Context) → Some Content ≡ Some there → Passes Content there (Short text)
 unfolding bytes_of
 short_passes text there e =
-    let first = first_characters MOST text in
+    let first = shortened text in
     let stays = stays-append (in_content (escaped (marked Marked first)) (inert (marked Marked first))) (more_stays (nat_lt (length first) (length text))) in
     record { place = stays.place ∙ cc; blank_place = cc; tags = stays.no_tag }
 
