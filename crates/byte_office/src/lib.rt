@@ -2,11 +2,9 @@
 #![tactic(auto)]
 
 mod fault;
-mod new_place;
 mod noting;
 mod replacing;
 
 pub use fault::{OfficeFileFault, UnreplacedFault};
-pub use new_place::NewStdPlace;
 pub use noting::{put_changed, put_office};
 pub use replacing::replace_after;

@@ -1,30 +1,27 @@
 //! Files that are replaced as a whole: a new file is made, synced, and renamed to the old one.
 #![tactic(auto)]
 
-mod beside;
 mod chunks;
+mod direct_place;
 mod fault;
-mod file_place;
+mod file_id;
 mod input;
 mod lock;
 mod mem_place;
 mod memory_target;
+mod naming;
 mod place;
 mod replacing;
-mod reserved;
 mod sending;
-mod way;
-mod within;
 
-pub use beside::make_alike;
 pub use chunks::{Chunks, InOne};
+pub use direct_place::DirectPlace;
 pub use fault::{CompareFault, InUse, MakeFault, PutFault, ReplaceFault};
-pub use file_place::{FilePlace, own_path};
+pub use file_id::FileId;
 pub use input::{Input, InputOf, first_kept};
 pub use lock::{Lock, Lockable};
 pub use mem_place::{MemPlace, PlaceStep};
+pub use naming::own_path;
 pub use place::Place;
 pub use replacing::{prepare, replace, replace_with};
-pub use reserved::make_own;
 pub use sending::{fill, write_chunks};
-pub use way::FileId;

@@ -1,4 +1,3 @@
 pub mod Course
 pub mod Steps
-pub mod Turns
 pub mod Ways

@@ -1,11 +1,11 @@
 //! The place of a file that is replaced by a new one beside it.
 
-ghost use Rattle.std.specs.Prelude.{◌≡◌, [], None, IsSome, IfErr, true, false};
-ghost use Rattle.byte_io.specs.Device.{target_of};
-ghost use Rattle.byte_out.specs.Place.{untold, PutsOnly};
+ghost use Rattle.std.specs.Prelude.{◌≡◌, [], None, Some, IsSome, OnOk, IfErr, true, false};
+ghost use Rattle.byte_io.specs.Device.{target_of, Opens};
+ghost use Rattle.byte_out.specs.Place.{untold, CountsOnly, ComparesOnly, PutsOnly};
 ghost use Rattle.byte_system.specs.System.{calls};
-ghost use Rattle.byte_place.specs.Course.{Comes};
-ghost use Rattle.byte_place.specs.Steps.{MakesNone};
+ghost use Rattle.byte_place.specs.Course.{Comes, has_landed, is_owned, read_of};
+ghost use Rattle.byte_place.specs.declared.progress.At.TheVariants as at;
 
 use crate::progress::{At, ReserveFault};
 use crate::steps::{Unput, make_fault, mode_for, put_own, remove_own, reserve_fault, visit};
@@ -21,13 +21,15 @@ pub struct CallPlace<S: System + Drop> {
     pub(crate) system: S,
     pub(crate) out: Vec<u8>,
     pub(crate) beside: Vec<u8>,
-    at: At,
+    pub(crate) at: At,
     /// Whether a caller that had not read the old file was about to put the new one in its place.
     pub(crate) unread: bool,
     pub(crate) taken: Log,
+    /// What the old file had when it was compared.
+    pub(crate) found: Log,
     failures: Tally,
     openings: Tally,
-    ghost course: { ∥ Comes out.items beside.items taken.bytes unread at (calls (S.state system)) ∥₁ },
+    ghost course: { ∥ Comes out.items beside.items taken.bytes found.bytes unread at (calls (S.state system)) ∥₁ },
 }
 
 impl<S: System + Drop> CallPlace<S> {
@@ -47,6 +49,7 @@ impl<S: System + Drop> CallPlace<S> {
             at: At::Start,
             unread: false,
             taken: Log::empty(),
+            found: Log::empty(),
             failures: Tally::none(),
             openings: Tally::none(),
         }
@@ -64,6 +67,8 @@ impl<S: System + Drop> CallPlace<S> {
         requires { calls (S.state system) ≡ [] }
         ensures out { self.new.out ≡ self.old.out }
         ensures beside { self.new.beside ≡ self.old.beside }
+        ensures landed { has_landed self.old.at ≡ true → has_landed self.new.at ≡ true }
+        ensures put { self.old.at ≡ at.Put → self.new.at ≡ at.Put }
     {
         if self.has_file() {
             return;
@@ -72,12 +77,15 @@ impl<S: System + Drop> CallPlace<S> {
         self.at = At::Start;
         self.unread = false;
         self.taken = Log::empty();
+        self.found = Log::empty();
     }
 
-    // Whether there is a new file, which is still to be put in place or removed.
-    fn has_file(&self) -> bool {
+    // Whether there is a new file, which is still to be put in place, and its folder to be synced, or to be removed.
+    fn has_file(&self) -> bool
+        ensures { self.now.at ≡ at.Put → result ≡ true }
+    {
         match self.at {
-            At::Start | At::Put | At::Over => false,
+            At::Start | At::Landed | At::Over => false,
             _ => true,
         }
     }
@@ -87,7 +95,6 @@ impl<S: System + Drop> CallPlace<S> {
         ensures same { ⟦<CallPlace<S> as Place>⟧.state self.new ≡ ⟦<CallPlace<S> as Place>⟧.state self.old }
         ensures out { self.new.out ≡ self.old.out }
         ensures beside { self.new.beside ≡ self.old.beside }
-        ensures fault { IfErr result (λ e. MakesNone e (calls (S.state self.old.system)) (calls (S.state self.new.system))) }
     {
         let At::Start = self.at else {
             return Ok(());
@@ -104,7 +111,7 @@ impl<S: System + Drop> CallPlace<S> {
             return Ok(());
         }
         if !self.likens() {
-            return Err(ReserveFault::Unlike);
+            return Err(ReserveFault::NotOpened);
         }
         Ok(())
     }
@@ -122,30 +129,10 @@ impl<S: System + Drop> CallPlace<S> {
         self.clear();
     }
 
-    /// Leaves the new file alone, whose name leads to another file.
-    pub fn abandon(&mut self)
-        ensures same { ⟦<CallPlace<S> as Place>⟧.state self.new ≡ ⟦<CallPlace<S> as Place>⟧.state self.old }
-        ensures out { self.new.out ≡ self.old.out }
-        ensures beside { self.new.beside ≡ self.old.beside }
-    {
-        let At::Ready(_file) = self.at else {
-            return;
-        };
-        self.at = At::Over;
-    }
-
-    /// Whether the system refused to rename the new file to the old one, which may still be open to writing.
-    pub fn is_refused(&self) -> bool {
-        match self.at {
-            At::Refused(_) => true,
-            _ => false,
-        }
-    }
-
     /// Whether the place was used: another file is put by another place.
     pub fn is_over(&self) -> bool {
         match self.at {
-            At::Put | At::Over => true,
+            At::Landed | At::Over => true,
             _ => false,
         }
     }
@@ -160,12 +147,7 @@ impl<S: System + Drop> CallPlace<S> {
             return false;
         };
         match self.system.make_alike(file, &self.out) {
-            Ok(true) => true,
-            Ok(false) => {
-                self.at = At::Broken(file);
-                self.clear();
-                false
-            }
+            Ok(()) => true,
             Err(_) => {
                 self.at = At::Broken(file);
                 self.clear();
@@ -179,6 +161,7 @@ impl<S: System + Drop> CallPlace<S> {
         ensures same { ⟦<CallPlace<S> as Place>⟧.state self.new ≡ ⟦<CallPlace<S> as Place>⟧.state self.old }
         ensures out { self.new.out ≡ self.old.out }
         ensures beside { self.new.beside ≡ self.old.beside }
+        ensures read { read_of self.new.unread self.new.found.bytes ≡ read_of self.old.unread self.old.found.bytes }
     {
         let At::Broken(file) = self.at else {
             return;
@@ -190,7 +173,7 @@ impl<S: System + Drop> CallPlace<S> {
     // A file that was not read is not compared.
     fn settles(&mut self, is_read: bool)
         ensures same { ⟦<CallPlace<S> as Place>⟧.state self.new ≡ ⟦<CallPlace<S> as Place>⟧.state self.old }
-        ensures read { is_read ≡ true → self.new.unread ≡ self.old.unread }
+        ensures read { is_read ≡ true → read_of self.new.unread self.new.found.bytes ≡ read_of self.old.unread self.old.found.bytes }
     {
         let At::Synced(file) = self.at else {
             return;
@@ -204,7 +187,9 @@ impl<S: System + Drop> CallPlace<S> {
     // Renames the new file to the old one, if it may be put in its place.
     fn puts<C: Chunks>(&mut self, read: Option<&[u8]>, _content: &mut C) -> Result<(), PutFault>
         ensures calls { PutsOnly result (C.bytes _content.old) (⟦<CallPlace<S> as Place>⟧.state self.old).sink (⟦<CallPlace<S> as Place>⟧.state self.new).sink }
-        ensures read { IsSome read.entry → self.new.unread ≡ self.old.unread }
+        ensures read { IsSome read.entry → read_of self.new.unread self.new.found.bytes ≡ read_of self.old.unread self.old.found.bytes }
+        ensures put { OnOk result (self.new.at ≡ at.Put) }
+        ensures bytes { C.bytes _content.new ≡ C.bytes _content.old }
     {
         self.settles(read.is_some());
         let At::Ready(file) = self.at else {
@@ -220,8 +205,8 @@ impl<S: System + Drop> CallPlace<S> {
                 self.at = At::Over;
                 Err(PutFault::Changed)
             }
-            Err(Unput::Refused) => {
-                self.at = At::Refused(file);
+            Err(Unput::Gone) => {
+                self.at = At::Over;
                 self.failures = Tally::after(&self.failures);
                 Err(PutFault::NotOpened)
             }
@@ -235,15 +220,15 @@ impl<S: System + Drop> CallPlace<S> {
 
     // A new file that has not been put can only be removed from now on.
     fn gives_up(&mut self)
-        ensures { ⟦<CallPlace<S> as Place>⟧.state self.new ≡ ⟦<CallPlace<S> as Place>⟧.state self.old }
+        ensures state { ⟦<CallPlace<S> as Place>⟧.state self.new ≡ ⟦<CallPlace<S> as Place>⟧.state self.old }
+        ensures read { read_of self.new.unread self.new.found.bytes ≡ read_of self.old.unread self.old.found.bytes }
     {
         match self.at {
             At::Reserved(file) => self.at = At::Broken(file),
             At::Owned(file) => self.at = At::Broken(file),
             At::Synced(file) => self.at = At::Broken(file),
             At::Ready(file) => self.at = At::Broken(file),
-            At::Refused(file) => self.at = At::Broken(file),
-            At::Start | At::Broken(_) | At::Put | At::Over => {}
+            At::Start | At::Broken(_) | At::Put | At::Landed | At::Over => {}
         }
     }
 }
@@ -260,7 +245,11 @@ impl<S: System + Drop> Place for CallPlace<S> {
       files = None;
     } };
 
-    fn make(&mut self) -> Result<(), MakeFault> {
+    fn make(&mut self) -> Result<(), MakeFault>
+        ensures calls { Opens result (⟦<CallPlace<S> as Place>⟧.state self.old).sink (⟦<CallPlace<S> as Place>⟧.state self.new).sink }
+        ensures owned { OnOk result (is_owned self.new.at ≡ true) }
+        ensures empty { OnOk result (self.new.taken.bytes ≡ []) }
+    {
         if let Err(fault) = self.reserve() {
             self.failures = Tally::after(&self.failures);
             return Err(make_fault(fault));
@@ -311,12 +300,17 @@ impl<S: System + Drop> Place for CallPlace<S> {
         Ok(())
     }
 
-    fn compare(&mut self, read: &[u8]) -> Result<(), CompareFault> {
+    fn compare(&mut self, read: &[u8]) -> Result<(), CompareFault>
+        ensures calls { ComparesOnly result (⟦<CallPlace<S> as Place>⟧.state self.old).sink (⟦<CallPlace<S> as Place>⟧.state self.new).sink }
+        ensures read { OnOk result (read_of self.new.unread self.new.found.bytes ≡ Some read.now) }
+    {
         let At::Synced(file) = self.at else {
             return Err(CompareFault::Changed);
         };
         match self.system.has(&self.out, read) {
             Ok(true) => {
+                self.found = Log::empty();
+                self.found.note(read);
                 self.at = At::Ready(file);
                 Ok(())
             }
@@ -329,11 +323,6 @@ impl<S: System + Drop> Place for CallPlace<S> {
                 self.failures = Tally::after(&self.failures);
                 Err(CompareFault::NotOpened)
             }
-            Err(FileReadFault::Forbidden) => {
-                self.at = At::Broken(file);
-                self.failures = Tally::after(&self.failures);
-                Err(CompareFault::NotOpened)
-            }
             Err(FileReadFault::Cut(count)) => {
                 self.at = At::Broken(file);
                 self.failures = Tally::after(&self.failures);
@@ -342,27 +331,45 @@ impl<S: System + Drop> Place for CallPlace<S> {
         }
     }
 
-    fn put<C: Chunks>(&mut self, read: Option<&[u8]>, content: &mut C) -> Result<(), PutFault> {
+    fn put<C: Chunks>(&mut self, read: Option<&[u8]>, content: &mut C) -> Result<(), PutFault>
+        ensures calls { PutsOnly result (C.bytes content.old) (⟦<CallPlace<S> as Place>⟧.state self.old).sink (⟦<CallPlace<S> as Place>⟧.state self.new).sink }
+        ensures read { IsSome read.entry → read_of self.new.unread self.new.found.bytes ≡ read_of self.old.unread self.old.found.bytes }
+        ensures put { OnOk result (self.new.at ≡ at.Put) }
+        ensures bytes { C.bytes content.new ≡ C.bytes content.old }
+    {
         self.puts(read, content)
     }
 
-    fn land(&mut self) -> Result<(), DeviceFault> {
+    fn land(&mut self) -> Result<(), DeviceFault>
+        ensures calls { CountsOnly result (⟦<CallPlace<S> as Place>⟧.state self.old).sink (⟦<CallPlace<S> as Place>⟧.state self.new).sink }
+        ensures landed { OnOk result (self.new.at ≡ at.Landed) }
+    {
         let At::Put = self.at else {
             self.failures = Tally::after(&self.failures);
             return Err(DeviceFault);
         };
         match self.system.sync_folder(&self.out) {
-            Ok(()) => Ok(()),
+            Ok(()) => {
+                self.at = At::Landed;
+                Ok(())
+            }
             // There is no way to sync a folder that may not be opened.
-            Err(FolderSyncFault::Forbidden) => Ok(()),
+            Err(FolderSyncFault::Forbidden) => {
+                self.at = At::Landed;
+                Ok(())
+            }
             Err(_) => {
+                self.at = At::Over;
                 self.failures = Tally::after(&self.failures);
                 Err(DeviceFault)
             }
         }
     }
 
-    fn remove(&mut self) {
+    fn remove(&mut self)
+        ensures calls { (⟦<CallPlace<S> as Place>⟧.state self.new).sink ≡ (⟦<CallPlace<S> as Place>⟧.state self.old).sink }
+        ensures read { read_of self.new.unread self.new.found.bytes ≡ read_of self.old.unread self.old.found.bytes }
+    {
         self.gives_up();
         self.clear();
     }

@@ -1,34 +1,27 @@
-//! What the place of a path makes and opens: a new file, the old one, or the place of all else.
+//! What the place of a path makes and opens: a new file, or a device.
 
-ghost use Rattle.std.specs.Prelude.{◌≡◌};
+ghost use Rattle.std.specs.Prelude.{◌≡◌, [], Some, true, false, IfOk, OnOk, option_map};
+ghost use Rattle.byte_place.specs.Course.{has_landed, is_owned};
 ghost use Rattle.byte_place.specs.Ways.{is_beside};
 
 use crate::path_place::{PathPlace, Way, file_of};
 use crate::progress::ReserveFault;
 use crate::systems::SystemSource;
-use crate::waiting::{is_left, reserve_in};
+use crate::waiting::{reserve_in, reserve_now};
 use crate::way::{Kind, kind_at};
-use byte_out::{FileId, InUse, Lockable, MakeFault, Place};
-use byte_protocol::EntryFault;
+use byte_out::{FileId, InUse, MakeFault, Place};
 use byte_system::System;
 use std::rt::{Clock, Files};
 use std::time::Duration;
 
-impl<'a, R: Files, S: System + Drop, M: SystemSource<S> + Drop, D: Place + Drop> PathPlace<
-    'a,
-    R,
-    S,
-    M,
-    D,
-> {
-    /// Makes and locks the new file, before the old one is read; `make` then finds it. While another command has it, or writes the old
-    /// one in place, this one waits, at most this long, and only then is refused. Where the new file cannot be made at all, nothing is,
+impl<'a, R: Files, S: System + Drop, M: SystemSource<S> + Drop> PathPlace<'a, R, S, M> {
+    /// Makes and locks the new file, before the old one is read; `make` then finds it. While another command has it,
+    /// this one waits, at most this long, and only then is refused. Where the new file cannot be made at all, nothing is,
     /// and `make` reports it. Unless `make` takes it, the new file is removed when the place is dropped.
     pub fn reserve(&mut self, wait: Duration) -> Result<(), InUse>
     where
         R: Clock,
-        R::File: Lockable,
-        ensures state { ⟦<PathPlace<'a, R, S, M, D> as Place>⟧.state self.new ≡ ⟦<PathPlace<'a, R, S, M, D> as Place>⟧.state self.old }
+        ensures state { ⟦<PathPlace<'a, R, S, M> as Place>⟧.state self.new ≡ ⟦<PathPlace<'a, R, S, M> as Place>⟧.state self.old }
         ensures path { self.new.path ≡ self.old.path }
         ensures led { self.new.led ≡ self.old.led }
         ensures out { self.new.beside.out ≡ self.old.beside.out }
@@ -43,22 +36,11 @@ impl<'a, R: Files, S: System + Drop, M: SystemSource<S> + Drop, D: Place + Drop>
             Kind::Plain | Kind::Nothing => {}
             Kind::Other | Kind::Unknown => return Ok(()),
         }
-        let start = self.rt.monotonic().ok();
-        match reserve_in(self.rt, &self.source, &mut self.beside, start, wait) {
-            Ok(()) => {}
-            Err(ReserveFault::Exists) => return Err(InUse),
-            Err(ReserveFault::Unlike) => {
-                self.is_unlike = true;
-                return Ok(());
-            }
-            Err(ReserveFault::Forbidden) => return Ok(()),
-            Err(ReserveFault::NotOpened) => return Ok(()),
+        match reserve_in(self.rt, &self.source, &mut self.beside, wait) {
+            Ok(()) => Ok(()),
+            Err(ReserveFault::Exists) => Err(InUse),
+            Err(ReserveFault::NotOpened) => Ok(()),
         }
-        if !is_left(self.rt, real, start, wait) {
-            self.beside.release();
-            return Err(InUse);
-        }
-        Ok(())
     }
 
     /// Whether the file that was made is a new one beside the old one, and not the old one itself.
@@ -77,9 +59,11 @@ impl<'a, R: Files, S: System + Drop, M: SystemSource<S> + Drop, D: Place + Drop>
         self.is_lost || self.avoided.is_some() && self.avoided == FileId::at(self.rt, real)
     }
 
-    /// Makes the new file, or opens the one that is overwritten.
+    /// Makes the new file, or opens the device.
     pub(crate) fn opens(&mut self) -> Result<Way, MakeFault>
-        ensures { ⟦<PathPlace<'a, R, S, M, D> as Place>⟧.state self.new ≡ ⟦<PathPlace<'a, R, S, M, D> as Place>⟧.state self.old }
+        ensures state { ⟦<PathPlace<'a, R, S, M> as Place>⟧.state self.new ≡ ⟦<PathPlace<'a, R, S, M> as Place>⟧.state self.old }
+        ensures owned { IfOk result (λ way. is_beside way ≡ true → is_owned self.new.beside.at ≡ true) }
+        ensures empty { IfOk result (λ way. is_beside way ≡ true → self.new.beside.taken.bytes ≡ []) }
     {
         if self.is_closed() {
             return Err(MakeFault::NotOpened);
@@ -89,16 +73,11 @@ impl<'a, R: Files, S: System + Drop, M: SystemSource<S> + Drop, D: Place + Drop>
             Kind::Other => return self.opens_direct(),
             Kind::Plain | Kind::Nothing => {}
         }
-        if self.is_unlike {
-            return self.opens_within();
-        }
         self.renews();
-        match self.beside.reserve() {
+        match reserve_now(&self.source, &mut self.beside) {
             Ok(()) => {}
             Err(ReserveFault::Exists) => return Err(MakeFault::Exists),
             Err(ReserveFault::NotOpened) => return Err(MakeFault::NotOpened),
-            Err(ReserveFault::Forbidden) => return self.opens_within(),
-            Err(ReserveFault::Unlike) => return self.opens_within(),
         }
         match self.beside.make() {
             Ok(()) => Ok(Way::Beside),
@@ -109,7 +88,8 @@ impl<'a, R: Files, S: System + Drop, M: SystemSource<S> + Drop, D: Place + Drop>
     /// Once the new file has its name, it is closed, so that its lock keeps nobody waiting, and another one can be made, by a process of
     /// its own.
     pub(crate) fn renews(&mut self)
-        ensures { ⟦<PathPlace<'a, R, S, M, D> as Place>⟧.state self.new ≡ ⟦<PathPlace<'a, R, S, M, D> as Place>⟧.state self.old }
+        ensures state { ⟦<PathPlace<'a, R, S, M> as Place>⟧.state self.new ≡ ⟦<PathPlace<'a, R, S, M> as Place>⟧.state self.old }
+        ensures landed { has_landed self.old.beside.at ≡ true → has_landed self.new.beside.at ≡ true }
     {
         if !self.beside.is_over() {
             return;
@@ -119,33 +99,14 @@ impl<'a, R: Files, S: System + Drop, M: SystemSource<S> + Drop, D: Place + Drop>
         }
     }
 
-    /// Opens the old file, to overwrite it.
-    pub(crate) fn opens_within(&mut self) -> Result<Way, MakeFault>
-        ensures { ⟦<PathPlace<'a, R, S, M, D> as Place>⟧.state self.new ≡ ⟦<PathPlace<'a, R, S, M, D> as Place>⟧.state self.old }
-    {
-        match self.locks() {
-            Ok(()) => Ok(Way::Within),
-            // It is not there, or has no locks.
-            Err(_) => self.opens_direct(),
-        }
-    }
-
     fn opens_direct(&mut self) -> Result<Way, MakeFault>
-        ensures { ⟦<PathPlace<'a, R, S, M, D> as Place>⟧.state self.new ≡ ⟦<PathPlace<'a, R, S, M, D> as Place>⟧.state self.old }
+        ensures state { ⟦<PathPlace<'a, R, S, M> as Place>⟧.state self.new ≡ ⟦<PathPlace<'a, R, S, M> as Place>⟧.state self.old }
+        ensures old { IfOk result (λ way. is_beside way ≡ false) }
+        ensures beside { self.new.beside ≡ self.old.beside }
     {
         match self.direct.make() {
             Ok(()) => Ok(Way::Direct),
             Err(_) => Err(MakeFault::NotOpened),
-        }
-    }
-
-    /// Locks the old file, so that nobody else writes it in place.
-    pub(crate) fn locks(&mut self) -> Result<(), EntryFault>
-        ensures { ⟦<PathPlace<'a, R, S, M, D> as Place>⟧.state self.new ≡ ⟦<PathPlace<'a, R, S, M, D> as Place>⟧.state self.old }
-    {
-        match &mut self.within {
-            Some(within) => within.enter(),
-            None => Err(EntryFault::NotOpened),
         }
     }
 }

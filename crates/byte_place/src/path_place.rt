@@ -1,18 +1,21 @@
-//! The place of a path: a new file beside the old one, or the old one itself, where no new file can take its place.
+//! The place of a path: a new file that takes the place of the old one, or a device that is written.
 
-ghost use Rattle.std.specs.Prelude.{◌≡◌, [], None, Some, IfOk, option_map};
+ghost use Rattle.std.specs.Prelude.{◌≡◌, ◌++◌, [], None, Some, true, IsSome, IfSome, IfOk, IfErr, OnOk, option_map};
 ghost use Rattle.std.specs.String.{string_bytes};
-ghost use Rattle.byte_io.specs.Device.{target_of};
+ghost use Rattle.byte_io.specs.Device.{target_of, Opens};
+ghost use Rattle.byte_io.specs.Whole.{WritesAll, IsCutAt};
 ghost use Rattle.byte_out.specs.Own.{IsOwnPath, file_of};
-ghost use Rattle.byte_out.specs.Place.{untold};
+ghost use Rattle.byte_out.specs.Place.{untold, CountsOnly, ComparesOnly, PutsOnly};
 ghost use Rattle.byte_system.specs.System.{calls};
+ghost use Rattle.byte_place.specs.Course.{has_landed, is_owned, read_of};
+ghost use Rattle.byte_place.specs.Ways.{HasPut, is_beside};
+ghost use Rattle.byte_place.specs.declared.path_place.Way.TheVariants as way;
 
 use crate::call_place::CallPlace;
 use crate::systems::SystemSource;
 use crate::way::{Led, leads};
-use crate::within_place::WithinPlace;
 use byte_io::{DeviceFault, Log, Tally, WriteFault};
-use byte_out::{Chunks, CompareFault, FileId, MakeFault, Place, PutFault, own_path};
+use byte_out::{Chunks, CompareFault, DirectPlace, FileId, MakeFault, Place, PutFault, own_path};
 use byte_system::System;
 use std::alloc::{AllocError, Global};
 use std::rt::Files;
@@ -22,14 +25,12 @@ use std::rt::Files;
 pub(crate) enum Way {
     Closed,
     Beside,
-    Within,
     Direct,
 }
 
-/// The place of a path; if the path is a link to a plain file, the place of that file. If the new file beside it cannot be made, or the
-/// system refuses to rename it, the file itself is overwritten by `put`, and not before. What is no plain file, and a plain file on a
-/// file system without locks, is overwritten by the place `direct`.
-pub struct PathPlace<'a, R, S: System + Drop, M: SystemSource<S> + Drop, D: Place + Drop> {
+/// The place of a path; if the path is a link to a plain file, the place of that file. A plain file is replaced by a new one beside it,
+/// and never written where it is. What is no plain file is written by the place `direct`.
+pub struct PathPlace<'a, R: Files, S: System + Drop, M: SystemSource<S> + Drop> {
     pub(crate) rt: &'a R,
     pub(crate) path: &'a str,
     /// The file that the path, a link, leads to.
@@ -37,24 +38,17 @@ pub struct PathPlace<'a, R, S: System + Drop, M: SystemSource<S> + Drop, D: Plac
     /// Whether the path is a link, and nobody knows where it leads.
     pub(crate) is_lost: bool,
     pub(crate) avoided: Option<FileId>,
-    /// The path of the new file.
-    pub(crate) own: String,
     pub(crate) source: M,
     pub(crate) beside: CallPlace<S>,
-    /// The file itself. While the new file is put in its place, this one keeps it locked, so that nobody writes it in place.
-    pub(crate) within: Option<WithinPlace<S>>,
-    pub(crate) direct: D,
+    pub(crate) direct: DirectPlace<'a, R>,
     pub(crate) way: Way,
-    /// Whether the new file cannot be opened to the same people as the old one.
-    pub(crate) is_unlike: bool,
     taken: Log,
     failures: Tally,
     openings: Tally,
 }
 
 // A new file that was reserved and not used is removed.
-impl<R, S: System + Drop, M: SystemSource<S> + Drop, D: Place + Drop> Drop
-    for PathPlace<'_, R, S, M, D> {
+impl<R: Files, S: System + Drop, M: SystemSource<S> + Drop> Drop for PathPlace<'_, R, S, M> {
     fn drop(self) {
         let PathPlace {
             rt: _,
@@ -62,13 +56,10 @@ impl<R, S: System + Drop, M: SystemSource<S> + Drop, D: Place + Drop> Drop
             led: _,
             is_lost: _,
             avoided: _,
-            own: _,
             source: _,
             mut beside,
-            within: _,
             direct: _,
             way: _,
-            is_unlike: _,
             taken: _,
             failures: _,
             openings: _,
@@ -78,13 +69,7 @@ impl<R, S: System + Drop, M: SystemSource<S> + Drop, D: Place + Drop> Drop
     }
 }
 
-impl<'a, R: Files, S: System + Drop, M: SystemSource<S> + Drop, D: Place + Drop> PathPlace<
-    'a,
-    R,
-    S,
-    M,
-    D,
-> {
+impl<'a, R: Files, S: System + Drop, M: SystemSource<S> + Drop> PathPlace<'a, R, S, M> {
     /// The place of a path. Nothing is made or opened yet. If the path leads to the file `avoided`, which the command also writes,
     /// the place does not open.
     pub fn new(
@@ -93,14 +78,12 @@ impl<'a, R: Files, S: System + Drop, M: SystemSource<S> + Drop, D: Place + Drop>
         path: &'a str,
         avoided: Option<FileId>,
         source: M,
-        direct: D,
-    ) -> Result<PathPlace<'a, R, S, M, D>, AllocError>
+    ) -> Result<PathPlace<'a, R, S, M>, AllocError>
         ensures path { IfOk result (λ p. p.path ≡ path.entry) }
         ensures avoided { IfOk result (λ p. p.avoided ≡ avoided) }
         ensures out { IfOk result (λ p. p.beside.out.items ≡ file_of (option_map string_bytes p.led) path.entry.now) }
         ensures beside { IfOk result (λ p. IsOwnPath (file_of (option_map string_bytes p.led) path.entry.now) p.beside.beside.items) }
-        ensures within { IfOk result (λ p. option_map (λ w. w.out.items) p.within ≡ Some (file_of (option_map string_bytes p.led) path.entry.now)) }
-        ensures untold { IfOk result (λ p. ⟦<PathPlace<'a, R, S, M, D> as Place>⟧.state p ≡ untold (target_of None)) }
+        ensures untold { IfOk result (λ p. ⟦<PathPlace<'a, R, S, M> as Place>⟧.state p ≡ untold (target_of None)) }
     {
         let (led, is_lost) = match leads(alloc, rt, path)? {
             Led::To(real) => (Some(real), false),
@@ -111,21 +94,17 @@ impl<'a, R: Files, S: System + Drop, M: SystemSource<S> + Drop, D: Place + Drop>
         let own = own_path(alloc, real)?;
         let system = source.system()?;
         let beside = place_beside(alloc, real, &own, system)?;
-        let system = source.system()?;
-        let within = place_within(alloc, real, system)?;
+        let direct = DirectPlace::new(rt, path);
         Ok(PathPlace {
             rt,
             path,
             led,
             is_lost,
             avoided,
-            own,
             source,
             beside,
-            within: Some(within),
             direct,
             way: Way::Closed,
-            is_unlike: false,
             taken: Log::empty(),
             failures: Tally::none(),
             openings: Tally::none(),
@@ -149,21 +128,6 @@ fn place_beside<S: System + Drop>(
     Ok(CallPlace::new(system, out, beside))
 }
 
-// The place of a file that is written in place.
-fn place_within<S: System + Drop>(
-    alloc: Global,
-    real: &str,
-    system: S,
-) -> Result<WithinPlace<S>, AllocError>
-    requires { calls (S.state system) ≡ [] }
-    ensures { IfOk result (λ p. p.out.items ≡ real.now) }
-{
-    match real.as_bytes().to_vec(alloc) {
-        Ok(out) => Ok(WithinPlace::new(system, out)),
-        Err(fault) => Err(fault),
-    }
-}
-
 /// The file that a link leads to, or else the one with the path.
 pub(crate) fn file_of<'a>(led: &'a Option<String>, path: &'a str) -> &'a str
     ensures { result.now ≡ file_of (option_map string_bytes led.now) path.now }
@@ -174,8 +138,7 @@ pub(crate) fn file_of<'a>(led: &'a Option<String>, path: &'a str) -> &'a str
     }
 }
 
-impl<R: Files, S: System + Drop, M: SystemSource<S> + Drop, D: Place + Drop> Place
-    for PathPlace<'_, R, S, M, D> {
+impl<'a, R: Files, S: System + Drop, M: SystemSource<S> + Drop> Place for PathPlace<'a, R, S, M> {
     ghost state = { λ s. record {
       sink = record {
         written = None;
@@ -187,7 +150,11 @@ impl<R: Files, S: System + Drop, M: SystemSource<S> + Drop, D: Place + Drop> Pla
       files = None;
     } };
 
-    fn make(&mut self) -> Result<(), MakeFault> {
+    fn make(&mut self) -> Result<(), MakeFault>
+        ensures calls { Opens result (⟦<PathPlace<'a, R, S, M> as Place>⟧.state self.old).sink (⟦<PathPlace<'a, R, S, M> as Place>⟧.state self.new).sink }
+        ensures owned { OnOk result (is_beside self.new.way ≡ true → is_owned self.new.beside.at ≡ true) }
+        ensures empty { OnOk result (is_beside self.new.way ≡ true → self.new.beside.taken.bytes ≡ []) }
+    {
         match self.opens() {
             Ok(way) => {
                 self.way = way;
@@ -201,11 +168,15 @@ impl<R: Files, S: System + Drop, M: SystemSource<S> + Drop, D: Place + Drop> Pla
         }
     }
 
-    fn write(&mut self, bytes: &[u8]) -> Result<(), WriteFault> {
+    fn write(&mut self, bytes: &[u8]) -> Result<(), WriteFault>
+        ensures ok { OnOk result (WritesAll bytes.now (⟦<PathPlace<'a, R, S, M> as Place>⟧.state self.old).sink (⟦<PathPlace<'a, R, S, M> as Place>⟧.state self.new).sink) }
+        ensures fault { IfErr result (λ e. IsCutAt e.written bytes.now (⟦<PathPlace<'a, R, S, M> as Place>⟧.state self.old).sink (⟦<PathPlace<'a, R, S, M> as Place>⟧.state self.new).sink) }
+        ensures beside { OnOk result (self.old.way ≡ way.Beside → self.new.beside.taken.bytes ≡ self.old.beside.taken.bytes ++ bytes.now) }
+    {
         match self.way {
             Way::Beside => {}
             // `put` writes the bytes.
-            Way::Within | Way::Direct => {
+            Way::Direct => {
                 self.taken.note(bytes);
                 return Ok(());
             }
@@ -230,10 +201,13 @@ impl<R: Files, S: System + Drop, M: SystemSource<S> + Drop, D: Place + Drop> Pla
         }
     }
 
-    fn sync(&mut self) -> Result<(), DeviceFault> {
+    fn sync(&mut self) -> Result<(), DeviceFault>
+        ensures calls { CountsOnly result (⟦<PathPlace<'a, R, S, M> as Place>⟧.state self.old).sink (⟦<PathPlace<'a, R, S, M> as Place>⟧.state self.new).sink }
+        ensures taken { self.new.beside.taken.bytes ≡ self.old.beside.taken.bytes }
+    {
         match self.way {
             Way::Beside => {}
-            Way::Closed | Way::Within | Way::Direct => return Ok(()),
+            Way::Closed | Way::Direct => return Ok(()),
         }
         if self.beside.sync().is_err() {
             self.failures = Tally::after(&self.failures);
@@ -242,7 +216,11 @@ impl<R: Files, S: System + Drop, M: SystemSource<S> + Drop, D: Place + Drop> Pla
         Ok(())
     }
 
-    fn compare(&mut self, read: &[u8]) -> Result<(), CompareFault> {
+    fn compare(&mut self, read: &[u8]) -> Result<(), CompareFault>
+        ensures calls { ComparesOnly result (⟦<PathPlace<'a, R, S, M> as Place>⟧.state self.old).sink (⟦<PathPlace<'a, R, S, M> as Place>⟧.state self.new).sink }
+        ensures read { OnOk result (is_beside self.old.way ≡ true → read_of self.new.beside.unread self.new.beside.found.bytes ≡ Some read.now) }
+        ensures taken { self.new.beside.taken.bytes ≡ self.old.beside.taken.bytes }
+    {
         let way = self.way;
         match self.compares(way, read) {
             Ok(()) => Ok(()),
@@ -254,23 +232,15 @@ impl<R: Files, S: System + Drop, M: SystemSource<S> + Drop, D: Place + Drop> Pla
         }
     }
 
-    fn put<C: Chunks>(&mut self, read: Option<&[u8]>, content: &mut C) -> Result<(), PutFault> {
+    fn put<C: Chunks>(&mut self, read: Option<&[u8]>, content: &mut C) -> Result<(), PutFault>
+        ensures calls { PutsOnly result (C.bytes content.old) (⟦<PathPlace<'a, R, S, M> as Place>⟧.state self.old).sink (⟦<PathPlace<'a, R, S, M> as Place>⟧.state self.new).sink }
+        ensures put { OnOk result (HasPut self.new.way self.new.beside.at self.new.direct.got.bytes (C.bytes content.old)) }
+        ensures read { IsSome read.entry → read_of self.new.beside.unread self.new.beside.found.bytes ≡ read_of self.old.beside.unread self.old.beside.found.bytes }
+        ensures taken { OnOk result (is_beside self.new.way ≡ true → self.new.beside.taken.bytes ≡ self.old.beside.taken.bytes) }
+    {
         let way = self.way;
         let whole = content.len();
         match self.puts(way, read, content, whole) {
-            Ok(()) => return Ok(()),
-            Err(PutFault::Changed) => return Err(PutFault::Changed),
-            Err(PutFault::WriteFailed(count)) => {
-                self.failures = Tally::after(&self.failures);
-                return Err(PutFault::WriteFailed(count));
-            }
-            Err(PutFault::NotOpened) => {}
-        }
-        if !self.beside.is_refused() {
-            self.failures = Tally::after(&self.failures);
-            return Err(PutFault::NotOpened);
-        }
-        match self.overwrites(read, content, whole) {
             Ok(()) => Ok(()),
             Err(PutFault::Changed) => Err(PutFault::Changed),
             Err(fault) => {
@@ -280,10 +250,13 @@ impl<R: Files, S: System + Drop, M: SystemSource<S> + Drop, D: Place + Drop> Pla
         }
     }
 
-    fn land(&mut self) -> Result<(), DeviceFault> {
+    fn land(&mut self) -> Result<(), DeviceFault>
+        ensures calls { CountsOnly result (⟦<PathPlace<'a, R, S, M> as Place>⟧.state self.old).sink (⟦<PathPlace<'a, R, S, M> as Place>⟧.state self.new).sink }
+        ensures landed { OnOk result (self.old.way ≡ way.Beside → has_landed self.new.beside.at ≡ true) }
+    {
         match self.way {
             Way::Beside => {}
-            Way::Closed | Way::Within | Way::Direct => return Ok(()),
+            Way::Closed | Way::Direct => return Ok(()),
         }
         if self.beside.land().is_err() {
             self.failures = Tally::after(&self.failures);
@@ -296,7 +269,7 @@ impl<R: Files, S: System + Drop, M: SystemSource<S> + Drop, D: Place + Drop> Pla
     fn remove(&mut self) {
         match self.way {
             Way::Beside => self.beside.remove(),
-            Way::Closed | Way::Within | Way::Direct => {}
+            Way::Closed | Way::Direct => {}
         }
     }
 }

@@ -14,23 +14,11 @@ pub(crate) enum At {
     Ready(usize),
     /// It can only be removed.
     Broken(usize),
-    /// It can only be removed, since the system refused to rename it.
-    Refused(usize),
     /// It has the name of the old one.
     Put,
+    /// Its folder was synced, too, unless that may not be opened.
+    Landed,
     /// There is nothing more to do.
-    Over,
-}
-
-/// How far a place has come that is written in place. A number is that of the file, which the place has locked.
-#[derive(Clone, Copy, Debug, PartialEq, Eq)]
-pub(crate) enum Within {
-    Start,
-    Locked(usize),
-    /// The file may be written.
-    Ready(usize),
-    /// It was emptied, and has the bytes that it got.
-    Filling(usize),
     Over,
 }
 
@@ -39,9 +27,6 @@ pub(crate) enum Within {
 pub enum ReserveFault {
     /// Another process has it.
     Exists,
-    /// No file with its name can be made in its folder.
-    Forbidden,
-    /// It cannot be opened to the same people as the old one.
-    Unlike,
+    /// It cannot be made, or not be opened to the same people as the old one.
     NotOpened,
 }

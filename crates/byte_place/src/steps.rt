@@ -9,15 +9,13 @@ ghost use Rattle.byte_place.specs.Steps.{Clears, Unrenamed, Visits, renamed, tol
 use crate::progress::ReserveFault;
 use byte_out::MakeFault;
 use byte_protocol::Fault;
-use byte_system::{Failed, Mode, RenameFault, System, There};
+use byte_system::{Failed, Mode, System, There};
 
 /// Why no new file was made, as places tell it.
 pub(crate) fn make_fault(fault: ReserveFault) -> MakeFault {
     match fault {
         ReserveFault::Exists => MakeFault::Exists,
-        ReserveFault::Forbidden | ReserveFault::Unlike | ReserveFault::NotOpened => {
-            MakeFault::NotOpened
-        }
+        ReserveFault::NotOpened => MakeFault::NotOpened,
     }
 }
 
@@ -27,7 +25,6 @@ pub(crate) fn reserve_fault(fault: Fault) -> ReserveFault
 {
     match fault {
         Fault::NewExists => ReserveFault::Exists,
-        Fault::Forbidden => ReserveFault::Forbidden,
         Fault::NotMade => ReserveFault::NotOpened,
         Fault::NotWritten(_) => ReserveFault::NotOpened,
         Fault::NotSure => ReserveFault::NotOpened,
@@ -48,7 +45,7 @@ pub(crate) fn mode_for(is_there: bool) -> Mode {
     Mode::Usual
 }
 
-/// Whether there is an old file. It has to be a plain file that opens for writing, as if it were written in place.
+/// Whether there is an old file. It has to be a plain file that opens for writing, as if it were written where it is.
 pub(crate) fn visit<S: System>(system: &mut S, out: &[u8]) -> Result<bool, Failed>
     ensures goes { GoesOn (S.state system.old) (S.state system.new) }
     ensures visits { Visits out.now (calls (S.state system.old)) (calls (S.state system.new)) }
@@ -84,12 +81,12 @@ fn find<S: System>(system: &mut S, out: &[u8]) -> Result<bool, Failed>
 pub(crate) enum Unput {
     /// Its name leads to another file.
     Lost,
-    /// The system refuses to rename it.
-    Refused,
+    /// The rename failed, and there is no old file any more: the new one is the only one.
+    Gone,
     NotPut,
 }
 
-/// Renames the new file, if its name still leads to it.
+/// Renames the new file, if its name still leads to it. After a rename that failed the old one is looked for.
 pub(crate) fn put_own<S: System>(
     system: &mut S,
     file: usize,
@@ -98,17 +95,22 @@ pub(crate) fn put_own<S: System>(
 ) -> Result<(), Unput>
     ensures goes { GoesOn (S.state system.old) (S.state system.new) }
     ensures ok { OnOk result (calls (S.state system.new) ≡ renamed out.now new.now file (calls (S.state system.old))) }
-    ensures fault { IfErr result (λ e. Unrenamed e new.now file (calls (S.state system.old)) (calls (S.state system.new))) }
+    ensures fault { IfErr result (λ e. Unrenamed e out.now new.now file (calls (S.state system.old)) (calls (S.state system.new))) }
 {
     match system.is_named(new, file) {
         Ok(true) => {}
         Ok(false) => return Err(Unput::Lost),
         Err(_) => return Err(Unput::NotPut),
     }
-    match system.rename(new, out) {
-        Ok(()) => Ok(()),
-        Err(RenameFault::Refused) => Err(Unput::Refused),
-        Err(RenameFault::NotRenamed) => Err(Unput::NotPut),
+    if system.rename(new, out).is_ok() {
+        return Ok(());
+    }
+    match system.look(out) {
+        Ok(There::Nothing) => Err(Unput::Gone),
+        Ok(There::Sole) => Err(Unput::NotPut),
+        Ok(There::Shared) => Err(Unput::NotPut),
+        Ok(There::Other) => Err(Unput::NotPut),
+        Err(_) => Err(Unput::NotPut),
     }
 }
 

@@ -10,6 +10,10 @@ use std::alloc::{AllocError, Global};
 pub trait SystemSource<S: System> {
     fn system(&self) -> Result<S, AllocError>
         ensures { IfOk result (λ s. calls (S.state s) ≡ []) };
+
+    /// One for the last attempt of a command that has waited.
+    fn after_waiting(&self) -> Result<S, AllocError>
+        ensures { IfOk result (λ s. calls (S.state s) ≡ []) };
 }
 
 /// Gives the files of the system.
@@ -30,5 +34,9 @@ impl<'a> HostSystems<'a> {
 impl<'a> SystemSource<HostSystem<'a>> for HostSystems<'a> {
     fn system(&self) -> Result<HostSystem<'a>, AllocError> {
         HostSystem::new(self.alloc, self.rt)
+    }
+
+    fn after_waiting(&self) -> Result<HostSystem<'a>, AllocError> {
+        HostSystem::after_waiting(self.alloc, self.rt)
     }
 }

@@ -1,6 +1,5 @@
 //! Where a path leads, and what is there. This only looks.
 
-use byte_out::{Lock, Lockable};
 use std::alloc::{AllocError, Global};
 use std::fs;
 use std::io::ErrorKind;
@@ -35,17 +34,6 @@ pub(crate) fn leads<R: Files>(alloc: Global, rt: &R, path: &str) -> Result<Led, 
         Ok(real) => Ok(Led::To(real.into_string())),
         Err(error) if error.kind() == ErrorKind::OutOfMemory => Err(AllocError),
         Err(_) => Ok(Led::Unknown),
-    }
-}
-
-/// Whether another command writes the file at this path in place. A shared lock is taken for a moment.
-pub(crate) fn is_written<R: Files>(rt: &R, path: &str) -> bool
-where
-    R::File: Lockable,
-{
-    match fs::open(rt, path) {
-        Ok(file) => file.lock_shared() == Lock::Held,
-        Err(_) => false,
     }
 }
 

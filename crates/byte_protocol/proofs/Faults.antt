@@ -78,7 +78,6 @@ unswept_anew j k l r = elim r [
 -- one that did not get the new file may begin anew
 pub refused_anew : (j : Job) (k : ℕ) (e : Fault) {before now : List Call} → IsLed j k Begins before → Refuses e j.new before now → IsLed j k Begins now
 refused_anew j k fault.NotMade l r = fails_anew j k Begins r.1 (begun_led j k r.0 l)
-refused_anew j k fault.Forbidden l r = fails_anew j k Begins r l
 refused_anew j k fault.NewExists l r = elim r [
   | inl unswept ↦ unswept_anew j k (made_led j k l) unswept
   | inr other ↦ elim other [
@@ -111,7 +110,6 @@ failed_path j k x i p l r = removed_path j k x i p (then_other j k (Fills x i p)
 halted_path : (j : Job) (k i : ℕ) (left : Option ℕ) (read : Option (List ℕ)) (e : Fault) (now : List Call)
     → Stops e j.out j.new i read (j.change k read) (reserved j.new left i []) now → EndsPath j k read now
 halted_path j k i left read fault.NotMade now s = absurd s
-halted_path j k i left read fault.Forbidden now s = absurd s
 halted_path j k i left read fault.NewExists now s = absurd s
 halted_path j k i left read (fault.NotWritten n) now s =
     whether_read j k read (removed_path j k read i (IsPart n) (then_by j k (WritesPart read i n) (reserved_led j k i left) tt tt) s)

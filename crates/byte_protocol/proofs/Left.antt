@@ -4,7 +4,7 @@ use Rattle.std.proofs.lemmas.Bool.{both_ways, eq-eqb}
 use Rattle.std.proofs.lemmas.Bool.Decides.{eqb_tells}
 use Rattle.std.proofs.lemmas.Option.{none-some, same_Some}
 use lib.Pointwise.{bytes_decides}
-use Rattle.byte_system.specs.Disk.{Content, content_of, content, named, Disk, Event, Call, Makes, Opens, Locks, Looks, Writes, Truncates, Syncs, Reads, Compares, Renames, Unlinks, SyncsFolder, Finds, Likens, Fails, Ends, step, after}
+use Rattle.byte_system.specs.Disk.{Content, content_of, content, named, Disk, Event, Call, Makes, Opens, Locks, Looks, Writes, Syncs, Reads, Compares, Renames, Unlinks, SyncsFolder, Finds, Likens, Fails, Ends, step, after}
 use Rattle.byte_protocol.specs.Protocol.{IsWhole, IsSynced, FoundSame, IsPart, Stage, Begins, HasMade, HasLocked, Owns, Fills, HasLeft, Sweeps, Replaced, ReplacedUnread, Ended, Move, MakesNew, LocksOwn, FindsOwn, GivesUp, WritesAll, WritesPart, WritesMore, WritesRest, SyncsNew, FindsSame, Puts, PutsUnread, Withdraws, LocksLeft, FindsLeft, SweepsLeft, Strays, Forgets, Dies, Job, from, dead, to, finds_call, call_of, IsFair, Deed, events, stages, Follows, IsStart, AreRead}
 use Rattle.byte_protocol.specs.Unread.{UnreadHave}
 use Rattle.byte_protocol.specs.Cuts.{clean_after, is_clean, MayLead, IsLeft, IsSince, WasAt, written, Spares, AreSparing}
@@ -42,13 +42,6 @@ leaves d k i (Locks n false) ne = idle d k i (Locks n false) refl (λ b. refl)
 leaves d k i (Looks p n t) ne = idle d k i (Looks p n t) refl (λ b. refl)
 leaves d k i (Writes n bs) ne = record {
   bytes = numbered_other d.bytes n (d.bytes n ++ bs) i (λ e. ne (ap Some (sym e)));
-  clean = λ b t. elim (eqb_tells i n) [
-    | inl (same, e) ↦ absurd (ne (ap Some (sym e)))
-    | inr (other, e) ↦ ap (λ q. cond q false b) other ∙ t
-  ];
-}
-leaves d k i (Truncates n) ne = record {
-  bytes = numbered_other d.bytes n [] i (λ e. ne (ap Some (sym e)));
   clean = λ b t. elim (eqb_tells i n) [
     | inl (same, e) ↦ absurd (ne (ap Some (sym e)))
     | inr (other, e) ↦ ap (λ q. cond q false b) other ∙ t

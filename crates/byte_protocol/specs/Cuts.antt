@@ -1,6 +1,6 @@
 -- What a loss of power may leave of the files: what was not synced may be lost, in part or whole.
 use Rattle.std.specs.Prelude.{◌≡◌, ◌⊎◌, ◌==◌, ℕ, Bool, true, false, List, [], ◌∷◌, Option, Some, None, bytes_eq, if◌then◌else◌}
-use Rattle.byte_system.specs.Disk.{Content, content, Disk, Event, Call, Writes, Truncates, Syncs, SyncsFolder, after}
+use Rattle.byte_system.specs.Disk.{Content, content, Disk, Event, Call, Writes, Syncs, SyncsFolder, after}
 use Rattle.byte_protocol.specs.Protocol.{Job, Move, MakesNew, Strays, Forgets, Deed, events}
 
 -- the call syncs the folder of this name
@@ -11,7 +11,6 @@ syncs_name p c = false
 -- whether all bytes of a file are on the disk after a call, if they were before it or not
 abbrev pub clean_after : ℕ → Bool → Call → Bool
 clean_after i was (Writes n bs) = if i == n then false else was
-clean_after i was (Truncates n) = if i == n then false else was
 clean_after i was (Syncs n) = if i == n then true else was
 clean_after i was c = was
 
@@ -43,7 +42,6 @@ WasAt first (e ∷ es) p i = ((after first (e ∷ es)).names p ≡ Some i) ⊎ W
 -- the file whose bytes the call changes
 abbrev pub written : Call → Option ℕ
 written (Writes n bs) = Some n
-written (Truncates n) = Some n
 written c = None
 
 -- a call that is no move of the protocol writes to no file that had one of the two names

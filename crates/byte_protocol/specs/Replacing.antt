@@ -47,8 +47,6 @@ Unswept new before now =
 
 -- all calls of one that did not get the new file
 abbrev pub Refuses : Fault → List ℕ → List Call → List Call → Type 0
--- its folder forbids the file, and nothing was made
-Refuses fault.Forbidden new before now = now ≡ Fails ∷ before
 -- no file could be made
 Refuses fault.NotMade new before now = (left : Option ℕ) × (now ≡ Fails ∷ begun new left before)
 -- there is one that stays; there was another one once that was removed; or the one that was made is not the process's own
@@ -82,7 +80,6 @@ changed out (Some read) before = Compares out read false ∷ before
 -- all calls of one that has the new file and stopped with a fault
 abbrev pub Stops : Fault → List ℕ → List ℕ → ℕ → Option (List ℕ) → List ℕ → List Call → List Call → Type 0
 Stops fault.NotMade out new i read bytes before now = ⊥
-Stops fault.Forbidden out new i read bytes before now = ⊥
 Stops fault.NewExists out new i read bytes before now = ⊥
 Stops (fault.NotWritten n) out new i read bytes before now = Removes new (Writes i (take n bytes) ∷ before) now
 Stops fault.NotSure out new i read bytes before now = Removes new (Fails ∷ Writes i bytes ∷ before) now

@@ -2,25 +2,13 @@
 #![tactic(auto)]
 
 mod cuts;
-mod cuts_within;
-mod in_turn;
 mod laws;
 mod reading;
 mod replacing;
-mod within;
 
 pub use cuts::{
     what_is_left_is_whole, what_is_left_was_there, what_is_synced_stays,
     what_is_there_when_synced_stays,
-};
-pub use cuts_within::{
-    a_cut_in_place_may_leave_anything, what_is_synced_in_place_is_left,
-    what_was_written_and_synced_is_left,
-};
-pub use in_turn::{
-    a_write_fault_is_a_round, one_alone_overwrites, one_of_each_keeps_both, out_may_be_a_part,
-    rounds_are_proceeded, what_was_read_is_overwritten, what_was_written_is_there,
-    writing_is_a_round,
 };
 pub use laws::{
     a_fault_is_a_path, a_stop_is_a_path, each_path_is_chosen, idle_paths_are_fair, no_work_is_lost,
@@ -32,5 +20,4 @@ pub use reading::{
     what_readers_put_stays, what_unread_files_have_stays, what_was_put_unread,
     who_has_read_is_read,
 };
-pub use replacing::{EntryFault, Fault, ReservedFile, enter, replace, replace_by, reserve};
-pub use within::{OverwriteFault, fill, write_within};
+pub use replacing::{Fault, ReservedFile, replace, replace_by, reserve};

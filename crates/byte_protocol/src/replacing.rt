@@ -12,8 +12,6 @@ use byte_system::{Failed, Mode, NewFileFault, System, There};
 pub enum Fault {
     /// The new file could not be made.
     NotMade,
-    /// No file with its name can be made in its folder.
-    Forbidden,
     /// Another process has the new file.
     NewExists,
     /// This many bytes were written, not all.
@@ -30,18 +28,6 @@ pub enum Fault {
     NotPut,
     /// The new file has the name, but a power cut may leave the old one.
     NotSynced,
-}
-
-/// Why a file is not this process's own.
-#[derive(Clone, Copy, Debug, PartialEq, Eq)]
-pub enum EntryFault {
-    NotOpened,
-    /// Another process has its lock.
-    Held,
-    /// Its lock could not be asked for, as where the file system has no locks.
-    NotLocked,
-    /// The name leads to another file, or it could not be looked at.
-    NotNamed,
 }
 
 /// The new file that a process has made, and the one that a stopped process had left.
@@ -98,54 +84,52 @@ fn make_new<S: System>(system: &mut S, new: &[u8], mode: Mode) -> Result<Reserve
     ensures ok { IfOk result (λ m. calls (S.state system.new) ≡ Makes new.now (Some m.file) ∷ begun new.now m.left (calls (S.state system.old))) }
     ensures fault { IfErr result (λ e. Refuses e new.now (calls (S.state system.old)) (calls (S.state system.new))) }
 {
-    match system.make(new, mode) {
+    match system.make_own(new, mode) {
         Ok(file) => return Ok(ReservedFile { file, left: None }),
         Err(NewFileFault::NotMade) => return Err(Fault::NotMade),
-        Err(NewFileFault::Forbidden) => return Err(Fault::Forbidden),
         Err(NewFileFault::Exists) => {}
     }
     let left = match sweep(system, new) {
         Ok(left) => left,
         Err(_) => return Err(Fault::NewExists),
     };
-    match system.make(new, mode) {
+    match system.make_own(new, mode) {
         Ok(file) => Ok(ReservedFile {
             file,
             left: Some(left),
         }),
         Err(NewFileFault::NotMade) => Err(Fault::NotMade),
-        Err(NewFileFault::Forbidden) => Err(Fault::NotMade),
         Err(NewFileFault::Exists) => Err(Fault::NewExists),
     }
 }
 
 // Locks the file, and then looks whether the name leads to it.
-fn own<S: System>(system: &mut S, new: &[u8], file: usize) -> Result<(), EntryFault>
+fn own<S: System>(system: &mut S, new: &[u8], file: usize) -> Result<(), Failed>
     ensures goes { GoesOn (S.state system.old) (S.state system.new) }
     ensures ok { OnOk result (calls (S.state system.new) ≡ Looks new.now file true ∷ Locks file true ∷ calls (S.state system.old)) }
     ensures err { OnErr result (Disowns new.now file (calls (S.state system.old)) (calls (S.state system.new))) }
 {
     match system.lock(file) {
         Ok(true) => {}
-        Ok(false) => return Err(EntryFault::Held),
-        Err(_) => return Err(EntryFault::NotLocked),
+        Ok(false) => return Err(Failed),
+        Err(_) => return Err(Failed),
     }
     match system.is_named(new, file) {
         Ok(true) => Ok(()),
-        Ok(false) => Err(EntryFault::NotNamed),
-        Err(_) => Err(EntryFault::NotNamed),
+        Ok(false) => Err(Failed),
+        Err(_) => Err(Failed),
     }
 }
 
-/// Opens the file with the name and locks it, and then looks whether the name leads to it.
-pub fn enter<S: System>(system: &mut S, path: &[u8]) -> Result<usize, EntryFault>
+// Opens the file with the name and locks it, and then looks whether the name leads to it.
+fn enter<S: System>(system: &mut S, path: &[u8]) -> Result<usize, Failed>
     ensures goes { GoesOn (S.state system.old) (S.state system.new) }
     ensures ok { IfOk result (λ i. calls (S.state system.new) ≡ entered path.now i (calls (S.state system.old))) }
     ensures err { OnErr result (Unentered path.now (calls (S.state system.old)) (calls (S.state system.new))) }
 {
-    let file = match system.open(path) {
+    let file = match system.open_left(path) {
         Ok(file) => file,
-        Err(_) => return Err(EntryFault::NotOpened),
+        Err(_) => return Err(Failed),
     };
     match own(system, path, file) {
         Ok(()) => Ok(file),

@@ -2,7 +2,7 @@
 use Rattle.std.proofs.Common.{◌≡◌, ◌≢◌, ◌⊎◌, inl, inr, ℕ, ◌+◌, ◌<◌, ◌≤◌, Bool, true, false, List, [], ◌∷◌, ◌++◌, Option, Some, None, IsSome, bytes_eq, eqb, refl, sym, ◌∙◌, ap, subst, cond, arith}
 use Rattle.std.proofs.lemmas.Bool.Decides.{eqb_tells}
 use lib.Pointwise.{bytes_decides}
-use Rattle.byte_system.specs.Disk.{content, content_of, Disk, Event, Call, Makes, Opens, Locks, Compares, Looks, Writes, Truncates, Renames, Unlinks, Finds, Likens, Ends, Gives, after, step, named, numbered, released, no_files}
+use Rattle.byte_system.specs.Disk.{content, content_of, Disk, Event, Call, Makes, Opens, Locks, Compares, Looks, Writes, Renames, Unlinks, Finds, Likens, Ends, Gives, after, step, named, numbered, released, no_files}
 use Rattle.byte_system.specs.Entries.{name_from, bytes_from, holder_from, may_lock, is_file}
 use Rattle.byte_system.specs.Files.{IsUnused, Shows}
 use Rattle.byte_system.specs.declared.entries.Name.{Name}
@@ -83,19 +83,6 @@ module _ (ns : List Name) (hs : List Held) (ls : List Lock) (c : ℕ) (es : List
     };
     honest = (s.honest, tt);
   }
-
-  pub truncated : (i : ℕ) (hs' : List Held) → ((j : ℕ) → bytes_from [] hs' j ≡ numbered (bytes_from [] hs) i [] j) → Shows ns hs' ls c (record { by = k; call = Truncates i } ∷ es)
-  truncated i hs' new = record {
-    names_are = s.names_are;
-    bytes_are = λ j. ap (λ x. cond (eqb j i) [] x) (s.bytes_are j) ∙ sym (new j);
-    holders_are = s.holders_are;
-    below = s.below;
-    unused = λ j le. record { free = (s.unused j le).free; empty = still_empty (eqb j i) (d.bytes j) (s.unused j le).empty; made = (s.unused j le).made };
-    honest = (s.honest, tt);
-  } where
-    still_empty : (b : Bool) (x : List ℕ) → x ≡ [] → cond b [] x ≡ []
-    still_empty true x e = refl
-    still_empty false x e = e
 
   pub made : (p : List ℕ) (ns' : List Name) → name_from None ns p ≡ None → ((q : List ℕ) → name_from None ns' q ≡ named (name_from None ns) p (Some c) q)
       → Shows ns' hs ls (c + 1) (record { by = k; call = Makes p (Some c) } ∷ es)

@@ -1,7 +1,7 @@
 -- The effect of a call on a system, while other processes make calls.
 use Rattle.std.specs.Prelude.{◌≡◌, ◌==◌, ℕ, Bool, true, false, List, [], ◌∷◌, ◌++◌, Option, Some, None, Ok, Err, take, if◌then◌else◌}
 use Rattle.std.specs.declared.result.Result.{Result}
-use Rattle.byte_system.specs.Disk.{Disk, Event, Call, Makes, Opens, Finds, Writes, Likens, Fails, Honest}
+use Rattle.byte_system.specs.Disk.{Disk, Event, Call, Makes, Opens, Finds, Writes, Fails, Honest}
 use Rattle.byte_system.specs.declared.system.NewFileFault.{NewFileFault}
 use Rattle.byte_system.specs.declared.system.NewFileFault.TheVariants as make
 use Rattle.byte_system.specs.declared.system.There.{There}
@@ -43,7 +43,6 @@ pub record GoesOn (old last : SystemState) : Type 0 where
 abbrev pub make_call : List ℕ → Result ℕ NewFileFault → Call
 make_call p (Ok i) = Makes p (Some i)
 make_call p (Err make.Exists) = Makes p None
-make_call p (Err make.Forbidden) = Fails
 make_call p (Err make.NotMade) = Fails
 
 abbrev pub open_call : {E : Type 0} → List ℕ → Result ℕ E → Call
@@ -67,11 +66,6 @@ look_call p (Ok there.Sole) = Finds p true
 look_call p (Ok there.Shared) = Finds p true
 look_call p (Ok there.Other) = Finds p true
 look_call p (Err e) = Fails
-
--- no file here says who may open it, so any answer is honest
-abbrev pub alike_call : {E : Type 0} → ℕ → List ℕ → Result Bool E → Call
-alike_call i p (Ok b) = Likens i p
-alike_call i p (Err e) = Fails
 
 -- the first n bytes were written
 abbrev pub write_call : ℕ → List ℕ → ℕ → Call

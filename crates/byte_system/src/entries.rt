@@ -186,18 +186,6 @@ pub(crate) fn append(
     Ok(())
 }
 
-/// Empties a file.
-pub(crate) fn set_empty(alloc: Global, held: &mut Vec<Held>, file: usize) -> Result<(), AllocError>
-    ensures ok { OnOk result ((i : ℕ) → bytes_from [] held.new.items i ≡ numbered (bytes_from [] held.old.items) file [] i) }
-    ensures err { OnErr result (held.new.items ≡ held.old.items) }
-{
-    let bytes = Vec::new(alloc);
-    if let Err(_) = held.push(Held { file, bytes }) {
-        return Err(AllocError);
-    }
-    Ok(())
-}
-
 /// Adds an entry about locks.
 pub(crate) fn set_lock(locks: &mut Vec<Lock>, lock: Lock) -> Result<(), AllocError>
     ensures ok { OnOk result ((i : ℕ) → holder_from None locks.new.items i ≡ lock_step (holder_from None locks.old.items i) lock i) }

@@ -4,7 +4,7 @@ ghost use Rattle.std.specs.Prelude.{◌≡◌, ◌∷◌, []};
 ghost use Rattle.byte_system.specs.Files.{Shows};
 
 use crate::entries::{Held, Lock, Name, bytes_of, file_named, move_name, set_name};
-use crate::system::{Failed, FileReadFault, FolderSyncFault, NewFileFault, RenameFault, There};
+use crate::system::{Failed, FileReadFault, FolderSyncFault, NewFileFault, There};
 use crate::trail::{Note, Said, Trail};
 use std::alloc::Global;
 
@@ -82,14 +82,9 @@ impl Files {
         by: usize,
         path: &[u8],
         works: bool,
-        is_forbidden: bool,
     ) -> Result<usize, NewFileFault>
         ensures { self.new.trail.events ≡ record { by = by; call = make_call path.now result } ∷ self.old.trail.events }
     {
-        if is_forbidden {
-            self.fail(by);
-            return Err(NewFileFault::Forbidden);
-        }
         if !works {
             self.fail(by);
             return Err(NewFileFault::NotMade);
@@ -179,23 +174,23 @@ impl Files {
         from: &[u8],
         to: &[u8],
         works: bool,
-    ) -> Result<(), RenameFault>
+    ) -> Result<(), Failed>
         ensures { self.new.trail.events ≡ record { by = by; call = done_or_failed (Renames from.now to.now) result } ∷ self.old.trail.events }
     {
         if !works {
             self.fail(by);
-            return Err(RenameFault::NotRenamed);
+            return Err(Failed);
         }
         let Some(file) = file_named(&self.names, from) else {
             self.fail(by);
-            return Err(RenameFault::NotRenamed);
+            return Err(Failed);
         };
         if let Err(_) = move_name(self.alloc, &mut self.names, from, to, Some(file)) {
             self.trail = self.trail.then(&Note {
                 by,
                 call: Said::Fails,
             });
-            return Err(RenameFault::NotRenamed);
+            return Err(Failed);
         }
         self.trail = self.trail.then(&Note {
             by,

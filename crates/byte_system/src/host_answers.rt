@@ -1,6 +1,6 @@
 //! What answers of the system mean.
 
-use crate::system::{Mode, NewFileFault, RenameFault, There};
+use crate::system::{Mode, NewFileFault, There};
 use std::fs::Metadata;
 use std::io::ErrorKind;
 use std::os::unix::fs::MetadataExt;
@@ -29,17 +29,6 @@ pub(crate) fn permissions(mode: Mode) -> u32 {
 pub(crate) fn make_fault(error: ErrorKind) -> NewFileFault {
     match error {
         ErrorKind::AlreadyExists => NewFileFault::Exists,
-        ErrorKind::PermissionDenied | ErrorKind::ReadOnlyFilesystem | ErrorKind::InvalidFilename =>
-            NewFileFault::Forbidden,
         _ => NewFileFault::NotMade,
-    }
-}
-
-/// Why a file was not renamed. One that is a mount of its own is not refused: whoever replaces it outside would not see what is
-/// written to it.
-pub(crate) fn rename_fault(error: ErrorKind) -> RenameFault {
-    match error {
-        ErrorKind::PermissionDenied | ErrorKind::CrossesDevices => RenameFault::Refused,
-        _ => RenameFault::NotRenamed,
     }
 }

@@ -6,13 +6,16 @@ mod files;
 mod host_answers;
 mod host_files;
 mod host_system;
+mod likeness;
+mod maker;
 mod mem_system;
 mod open_files;
+mod own;
+mod pair;
+mod putting;
 mod system;
 mod trail;
 
 pub use host_system::HostSystem;
 pub use mem_system::{Act, Does, MemSystem};
-pub use system::{
-    Failed, FileReadFault, FolderSyncFault, Mode, NewFileFault, RenameFault, System, There,
-};
+pub use system::{Failed, FileReadFault, FolderSyncFault, Mode, NewFileFault, System, There};

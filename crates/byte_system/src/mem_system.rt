@@ -5,9 +5,7 @@ ghost use Rattle.byte_system.specs.Disk.{no_files};
 ghost use Rattle.byte_system.specs.Quiet.{IsOne, IsQuiet};
 
 use crate::files::Files;
-use crate::system::{
-    Failed, FileReadFault, FolderSyncFault, Mode, NewFileFault, RenameFault, System, There,
-};
+use crate::system::{Failed, FileReadFault, FolderSyncFault, Mode, NewFileFault, System, There};
 use std::alloc::Global;
 
 /// What another process does. A file's number is how many files were made before it.
@@ -37,7 +35,6 @@ pub struct MemSystem {
     acts: Vec<Act>,
     fails: Vec<usize>,
     now: usize,
-    is_forbidden: bool,
 }
 
 impl MemSystem {
@@ -51,15 +48,7 @@ impl MemSystem {
             acts,
             fails,
             now: 0,
-            is_forbidden: false,
         }
-    }
-
-    /// From now on the folder forbids new files of this process.
-    pub fn forbid(&mut self)
-        ensures { ⟦<MemSystem as System>⟧.state self.new ≡ ⟦<MemSystem as System>⟧.state self.old }
-    {
-        self.is_forbidden = true;
     }
 
     /// The bytes of the file with a name.
@@ -83,7 +72,7 @@ fn do_act(files: &mut Files, by: usize, does: &Does)
 {
     match does {
         Does::Make(path) => {
-            let _ = files.make(by, path, true, false);
+            let _ = files.make(by, path, true);
         }
         Does::Lock(file) => {
             let _ = files.lock(by, *file, true);
@@ -135,15 +124,25 @@ impl System for MemSystem {
 
     fn make(&mut self, path: &[u8], _mode: Mode) -> Result<usize, NewFileFault> {
         let works = self.works();
-        self.files.make(self.me, path, works, self.is_forbidden)
+        self.files.make(self.me, path, works)
     }
 
-    fn make_alike(&mut self, file: usize, path: &[u8]) -> Result<bool, Failed> {
+    fn make_own(&mut self, path: &[u8], _mode: Mode) -> Result<usize, NewFileFault> {
+        let works = self.works();
+        self.files.make(self.me, path, works)
+    }
+
+    fn make_alike(&mut self, file: usize, path: &[u8]) -> Result<(), Failed> {
         let works = self.works();
         self.files.make_alike(self.me, file, path, works)
     }
 
     fn open(&mut self, path: &[u8]) -> Result<usize, Failed> {
+        let works = self.works();
+        self.files.open(self.me, path, works)
+    }
+
+    fn open_left(&mut self, path: &[u8]) -> Result<usize, Failed> {
         let works = self.works();
         self.files.open(self.me, path, works)
     }
@@ -163,11 +162,6 @@ impl System for MemSystem {
         self.files.write(self.me, file, bytes, works)
     }
 
-    fn truncate(&mut self, file: usize) -> Result<(), Failed> {
-        let works = self.works();
-        self.files.truncate(self.me, file, works)
-    }
-
     fn sync(&mut self, file: usize) -> Result<(), Failed> {
         let works = self.works();
         self.files.sync(self.me, file, works)
@@ -178,7 +172,7 @@ impl System for MemSystem {
         self.files.has(self.me, path, bytes, works)
     }
 
-    fn rename(&mut self, from: &[u8], to: &[u8]) -> Result<(), RenameFault> {
+    fn rename(&mut self, from: &[u8], to: &[u8]) -> Result<(), Failed> {
         let works = self.works();
         self.files.rename(self.me, from, to, works & (from != to))
     }

@@ -2,14 +2,14 @@
 
 ghost use Rattle.std.specs.Prelude.{◌≡◌, ◌≤◌, ◌∷◌};
 
-use crate::entries::{Lock, append, file_named, holder_of, is_file, may_lock, set_empty, set_lock};
+use crate::entries::{Lock, append, file_named, holder_of, is_file, may_lock, set_lock};
 use crate::files::Files;
 use crate::system::Failed;
 use crate::trail::{Note, Said};
 
 impl Files {
-    ghost use Rattle.byte_system.specs.Disk.{Locks, Looks, Truncates, Syncs, Ends};
-    ghost use Rattle.byte_system.specs.System.{alike_call, done_or_failed, told_or_failed, write_call};
+    ghost use Rattle.byte_system.specs.Disk.{Likens, Locks, Looks, Syncs, Ends};
+    ghost use Rattle.byte_system.specs.System.{done_or_failed, told_or_failed, write_call};
 
     /// Files in memory are open to all.
     pub(crate) fn make_alike(
@@ -18,8 +18,8 @@ impl Files {
         file: usize,
         path: &[u8],
         works: bool,
-    ) -> Result<bool, Failed>
-        ensures { self.new.trail.events ≡ record { by = by; call = alike_call file path.now result } ∷ self.old.trail.events }
+    ) -> Result<(), Failed>
+        ensures { self.new.trail.events ≡ record { by = by; call = done_or_failed (Likens file path.now) result } ∷ self.old.trail.events }
     {
         if !works {
             self.fail(by);
@@ -33,7 +33,7 @@ impl Files {
             by,
             call: Said::Likens(file, path),
         });
-        Ok(true)
+        Ok(())
     }
 
     pub(crate) fn lock(&mut self, by: usize, file: usize, works: bool) -> Result<bool, Failed>
@@ -119,31 +119,6 @@ impl Files {
             call: Said::Writes(file, &bytes[..n]),
         });
         n
-    }
-
-    pub(crate) fn truncate(&mut self, by: usize, file: usize, works: bool) -> Result<(), Failed>
-        ensures { self.new.trail.events ≡ record { by = by; call = done_or_failed (Truncates file) result } ∷ self.old.trail.events }
-    {
-        if !works {
-            self.fail(by);
-            return Err(Failed);
-        }
-        if self.count <= file {
-            self.fail(by);
-            return Err(Failed);
-        }
-        if let Err(_) = set_empty(self.alloc, &mut self.held, file) {
-            self.trail = self.trail.then(&Note {
-                by,
-                call: Said::Fails,
-            });
-            return Err(Failed);
-        }
-        self.trail = self.trail.then(&Note {
-            by,
-            call: Said::Truncates(file),
-        });
-        Ok(())
     }
 
     pub(crate) fn sync(&mut self, by: usize, file: usize, works: bool) -> Result<(), Failed>

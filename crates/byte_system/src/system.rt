@@ -1,14 +1,12 @@
 //! The calls on files that a command makes. Other processes make calls before and between them.
 
-ghost use Rattle.byte_system.specs.Disk.{Locks, Looks, Truncates, Syncs, Compares, Renames, Unlinks, SyncsFolder};
-ghost use Rattle.byte_system.specs.System.{SystemState, Took, make_call, open_call, look_call, alike_call, done_or_failed, told_or_failed, write_call};
+ghost use Rattle.byte_system.specs.Disk.{Likens, Locks, Looks, Syncs, Compares, Renames, Unlinks, SyncsFolder};
+ghost use Rattle.byte_system.specs.System.{SystemState, Took, make_call, open_call, look_call, done_or_failed, told_or_failed, write_call};
 
 /// Why no new file was made.
 #[derive(Clone, Copy, Debug, PartialEq, Eq)]
 pub enum NewFileFault {
     Exists,
-    /// No file with this name can be made in its folder: the folder forbids it, or the name is too long.
-    Forbidden,
     NotMade,
 }
 
@@ -37,18 +35,8 @@ pub enum There {
 #[derive(Clone, Copy, Debug, PartialEq, Eq)]
 pub enum FileReadFault {
     NotOpened,
-    /// It may not be read.
-    Forbidden,
     /// Reading failed after this many bytes, which were the same.
     Cut(usize),
-}
-
-/// Why a file did not get another name.
-#[derive(Clone, Copy, Debug, PartialEq, Eq)]
-pub enum RenameFault {
-    /// The system refuses that for this file, which may still be open to writing.
-    Refused,
-    NotRenamed,
 }
 
 /// Why a folder was not synced.
@@ -78,13 +66,21 @@ pub trait System {
     fn make(&mut self, path: &[u8], mode: Mode) -> Result<usize, NewFileFault>
         ensures { Took (make_call path.now result) (state self.old) (state self.new) };
 
-    /// Gives an open file the owner, the group and the mode of the one with the name, as far as the system permits. Returns whether
-    /// both are open to the same people; if not, the mode is unchanged.
-    fn make_alike(&mut self, file: usize, path: &[u8]) -> Result<bool, Failed>
-        ensures { Took (alike_call file path.now result) (state self.old) (state self.new) };
+    /// Makes a file of which this process is to have the lock. There was none with this name.
+    fn make_own(&mut self, path: &[u8], mode: Mode) -> Result<usize, NewFileFault>
+        ensures { Took (make_call path.now result) (state self.old) (state self.new) };
+
+    /// Gives an open file the owner, the group and the mode of the one with the name, as far as the system permits. Where it keeps no
+    /// group, the mode gives the other group no more than everybody.
+    fn make_alike(&mut self, file: usize, path: &[u8]) -> Result<(), Failed>
+        ensures { Took (done_or_failed (Likens file path.now) result) (state self.old) (state self.new) };
 
     /// Opens the file with the name, in order to lock it.
     fn open(&mut self, path: &[u8]) -> Result<usize, Failed>
+        ensures { Took (open_call path.now result) (state self.old) (state self.new) };
+
+    /// Opens a file that a process which has ended had made to have its lock. If nobody knows whether it has ended, this fails.
+    fn open_left(&mut self, path: &[u8]) -> Result<usize, Failed>
         ensures { Took (open_call path.now result) (state self.old) (state self.new) };
 
     /// Asks for the lock of an open file, and does not wait.
@@ -99,10 +95,6 @@ pub trait System {
     fn write(&mut self, file: usize, bytes: &[u8]) -> usize
         ensures { Took (write_call file bytes.now result) (state self.old) (state self.new) };
 
-    /// Empties an open file. What is written after that is at its start.
-    fn truncate(&mut self, file: usize) -> Result<(), Failed>
-        ensures { Took (done_or_failed (Truncates file) result) (state self.old) (state self.new) };
-
     /// Syncs an open file.
     fn sync(&mut self, file: usize) -> Result<(), Failed>
         ensures { Took (done_or_failed (Syncs file) result) (state self.old) (state self.new) };
@@ -112,7 +104,7 @@ pub trait System {
         ensures { Took (told_or_failed (Compares path.now bytes.now) result) (state self.old) (state self.new) };
 
     /// Gives the file with one name another name, whose file loses it. It fails if the two are one name.
-    fn rename(&mut self, from: &[u8], to: &[u8]) -> Result<(), RenameFault>
+    fn rename(&mut self, from: &[u8], to: &[u8]) -> Result<(), Failed>
         ensures { Took (done_or_failed (Renames from.now to.now) result) (state self.old) (state self.new) };
 
     /// Takes the name from its file.

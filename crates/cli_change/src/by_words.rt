@@ -1,12 +1,12 @@
 //! Changes a register by a command on the entries that words name, which has its effects once, also if it is run again after a stop.
 use crate::offices::Desk;
+use byte_io::Writing;
+use byte_out::Place;
 use clap::ArgMatches;
-use cli_open::engines::places::Place;
-use cli_open::engines::streams::Writing;
-use cli_open::engines::{CliFault, run_change};
 use cli_open::{OpenOffice, RegisterTarget, open_target, word};
 use reg_commands::ByWords;
 use reg_commands::again::{EffectsOf, OnceOf};
+use reg_engine::{CliFault, run_change};
 use std::alloc::Global;
 use std::fs::File;
 use std::io::{self, Write};

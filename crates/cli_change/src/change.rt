@@ -10,15 +10,15 @@ use crate::by_words::changed_by_words;
 use crate::changing::change_of;
 use crate::offices::{Desk, office_named, open_desk};
 use crate::once::changed_once;
+use byte_out::Place;
 use clap::ArgMatches;
 use cli_open::ending::{Done, NotDone, Outcome, all_done, ended};
-use cli_open::engines::CliFault;
-use cli_open::engines::places::Place;
 use cli_open::{
     entries, entry, files_before, is_twice, listed, open_target, open_text, push_listed,
     push_words, word,
 };
 use reg_commands::{ByWords, Retire, RetireOf, Supersede, SupersedeOf};
+use reg_engine::CliFault;
 use reg_supersede::{RefusedLine, SupersedeFrom, refused_line, refused_word};
 use std::alloc::{AllocError, Global};
 use std::str;

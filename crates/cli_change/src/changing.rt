@@ -1,10 +1,10 @@
 //! Changes a register, in its file or on its shelf, as an office with an office file or without one.
 use crate::offices::Desk;
+use byte_io::Writing;
+use byte_out::Place;
 use clap::ArgMatches;
-use cli_open::engines::places::Place;
-use cli_open::engines::streams::Writing;
-use cli_open::engines::{Change, CliFault, Keep, run_change};
 use cli_open::{RegisterTarget, explains, open_target, word};
+use reg_engine::{Change, CliFault, Keep, run_change};
 use reg_news::News;
 use reg_news::watch::{Told, change_and_tell};
 use std::fs::File;

@@ -11,5 +11,3 @@ pub use change::{ListFault, Superseded, TWICE, ToldLine, retire, supersede};
 pub use changing::{change_of, changed, say_news};
 pub use offices::{Desk, misnamed, office, office_named, open_desk};
 pub use once::change_once;
-pub use reg_news::News;
-pub use reg_news::watch::{Notes, Watched};

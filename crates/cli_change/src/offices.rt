@@ -5,15 +5,15 @@ ghost use Rattle.reg_engine.specs.declared.fault.CliFault.TheVariants as cli;
 ghost use Rattle.cli_open.specs.Offices.{office_made, IsClosed};
 ghost use Rattle.cli_change.specs.Desks.{IsDesk};
 
+use byte_io::Writing;
+use byte_out::{FileId, Place, own_path};
+use byte_place::{NewPlace, OutPlace};
+use byte_system::HostSystem;
 use clap::ArgMatches;
-use cli_open::engines::places::{FileId, Place, own_path};
-use cli_open::engines::streams::Writing;
-use cli_open::engines::{CliFault, OutFault};
-use cli_open::guards::{OfficeFile, run_office};
-use cli_open::{
-    HostSystem, NewPlace, OpenOffice, OutPlace, office_at, office_file, open_office, parts,
-    real_path, replica, word,
-};
+use cli_open::{OpenOffice, office_at, office_file, open_office, parts, real_path, replica, word};
+use reg_engine::{CliFault, OutFault};
+use reg_guard::run_office;
+use reg_journal::OfficeFile;
 use std::alloc::{AllocError, Global};
 use std::io::ErrorKind;
 use std::os::fd::AsFd;
@@ -29,8 +29,8 @@ const REG_IS_OFFICE: &str = "error: REG is the office file, or its new one";
 const AS_IS_OFFICE: &str =
     "error: --as is the office of the file in CRSREG_OFFICE, which would not know what it makes: leave --as out";
 
-// The most bytes of the name of an office file: the name of the new file beside it has eight more, of which 255 are the most.
-const LONGEST_NAME: usize = 247;
+// The most bytes of the name of an office file: the name of the new file beside it has 25 more, of which 255 are the most.
+const LONGEST_NAME: usize = 230;
 
 // How many links a path may lead through.
 const MOST_LINKS: usize = 40;

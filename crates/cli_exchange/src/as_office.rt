@@ -1,14 +1,14 @@
 //! `take` of files, as an office with an office file.
 use crate::asked::take_options;
-use byte_io::LateSource;
+use byte_io::{LateSource, Writing};
+use byte_out::Place;
 use clap::ArgMatches;
-use cli_open::engines::CliFault;
-use cli_open::engines::places::Place;
-use cli_open::engines::streams::Writing;
-use cli_open::guards::{OfficeFile, TriedFile, TriedShelf};
 use cli_open::{
     OpenOffice, OpenedRegister, Rows, answered, open_office, open_register, open_target, word,
 };
+use reg_engine::CliFault;
+use reg_guard::{TriedFile, TriedShelf};
+use reg_journal::OfficeFile;
 use reg_take::{TakeEffect, run_take, try_take};
 use std::io::{self, Write};
 

@@ -1,8 +1,8 @@
 //! What the options of `take` ask for.
 use clap::ArgMatches;
-use cli_open::engines::CliFault;
-use cli_open::guards::OfficeFile;
 use cli_open::replica;
+use reg_engine::CliFault;
+use reg_journal::OfficeFile;
 use reg_take::TakeOptions;
 use std::alloc::Global;
 use uuid::Uuid;

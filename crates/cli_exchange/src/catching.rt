@@ -1,21 +1,24 @@
 //! `take` without files, which brings what an office made to its register.
+use crate::asked::take_options;
 use crate::brought::Gained;
+use byte_io::Writing;
+use byte_out::Place;
 use clap::ArgMatches;
-use cli_open::engines::places::Place;
-use cli_open::engines::streams::Writing;
-use cli_open::engines::{CliFault, Keep, Store, run_change, run_print};
-use cli_open::guards::{OfficeFile, TriedFile, TriedShelf};
 use cli_open::{
     OpenOffice, OpenedRegister, Rows, answered, explains, open_office, open_register, open_target,
     word,
 };
+use reg_engine::{CliFault, Keep, Store, run_change, run_print};
+use reg_guard::{TriedFile, TriedShelf};
+use reg_journal::OfficeFile;
 use reg_news::watch::{Notes, Watched};
 use reg_take::own::{CatchUp, Catching, WouldCatchUp, caught_up};
 use std::alloc::Global;
 use std::io::{self, Write};
 
 /// Joins all that the office of the office file at this path made to the register, and prints what changed. Returns the register
-/// before and after, where sentences are on and there was memory for copies.
+/// before and after, where sentences are on and there was memory for copies. The offices that `--from` names are looked at, and have no
+/// files here.
 pub fn catch_up(
     rt: &HostRuntime,
     matches: &ArgMatches<'_>,
@@ -43,6 +46,7 @@ fn catch_up_to<Q: Place, W: Write>(
     office: &mut OpenOffice<Q>,
     sink: &mut Writing<W>,
 ) -> Result<Option<Gained>, CliFault> {
+    take_options(rt.alloc(), matches, None)?;
     let mut target = open_target(rt, matches, word(matches, "REG"))?;
     let OpenOffice { file, place } = office;
     let file = &*file;
@@ -82,7 +86,11 @@ fn changed<T: Keep, W: Write>(
     let Some(Ok(after)) = kept else {
         return Ok(None);
     };
-    Ok(Some(Gained { before, after }))
+    Ok(Some(Gained {
+        before,
+        after,
+        retired: Vec::new(alloc),
+    }))
 }
 
 // Prints what would change, and writes nothing.
@@ -92,6 +100,7 @@ fn try_to<W: Write>(
     file: &OfficeFile,
     sink: &mut Writing<W>,
 ) -> Result<Option<Gained>, CliFault> {
+    take_options(rt.alloc(), matches, None)?;
     let tells = explains(matches);
     match open_register(rt, rt.alloc(), matches, "REG", &None)? {
         OpenedRegister::File(source) => {
@@ -139,7 +148,11 @@ fn printed<T: Store, W: Write>(
         return Ok(None);
     };
     match caught_up(alloc, file, &before) {
-        Ok(after) => Ok(Some(Gained { before, after })),
+        Ok(after) => Ok(Some(Gained {
+            before,
+            after,
+            retired: Vec::new(alloc),
+        })),
         Err(_) => Ok(None),
     }
 }

@@ -1,17 +1,19 @@
 //! Commands that make and exchange registers.
 use crate::brought::say_merged;
+use byte_disk::NewFile;
+use byte_place::OutPlace;
 use clap::ArgMatches;
-use cli_faults::{CommandFiles, CommandName};
-use cli_open::engines::disks::NewFile;
-use cli_open::engines::shelf::is_size;
-use cli_open::engines::{CliFault, Refusal, ShelfProblem};
+use cli_faults::CommandFiles;
 use cli_open::{
-    OpenedRegister, OutPlace, Replaced, explains, give_of, lock_new_shelf, next_file, open,
-    open_all, open_inputs, open_register, open_shelf, open_to_read, parts, place, reserve, word,
+    OpenedRegister, Replaced, explains, give_of, lock_new_shelf, next_file, open, open_all,
+    open_inputs, open_register, open_shelf, open_to_read, parts, place, reserve, word,
 };
+use cli_words::CommandName;
 use reg_commands::{
     FirstVersion, PieceFor, SeenFile, Whole, run_merge, run_merge_on, run_new, run_shelf,
 };
+use reg_engine::{CliFault, Refusal, ShelfProblem};
+use reg_shelf::is_size;
 use reg_take::merge::{Merged, merge_files, merge_shelf};
 use std::fs::{self, File, OpenFile};
 use std::mem::forget;
@@ -115,14 +117,17 @@ pub fn downgrade(rt: &HostRuntime, matches: &ArgMatches<'_>) -> Result<(), CliFa
     give_of(rt, register, &mut FirstVersion, place)
 }
 
+/// The size of the new shelf, if a shelf may have it.
+pub fn shelf_size(matches: &ArgMatches<'_>) -> Option<u32> {
+    let size = word(matches, "SIZE").parse::<u32>().ok()?;
+    if is_size(size) { Some(size) } else { None }
+}
+
 /// `shelf`. A size that is not a number is refused like a size out of range.
 pub fn shelf(rt: &HostRuntime, matches: &ArgMatches<'_>) -> Result<(), CliFault> {
-    let Ok(size) = word(matches, "SIZE").parse::<u32>() else {
+    let Some(size) = shelf_size(matches) else {
         return Err(CliFault::Refused(Refusal::BadSize));
     };
-    if !is_size(size) {
-        return Err(CliFault::Refused(Refusal::BadSize));
-    }
     let path = word(matches, "NEW");
     // The lock ends with the file, when the shelf is whole.
     let _lock = lock_new_shelf(rt, path)?;

@@ -9,6 +9,5 @@ mod exchange;
 mod taking;
 
 pub use brought::{Gained, say_gained};
-pub use cli_faults as faults;
-pub use exchange::{downgrade, merge, new, piece, seen, shelf, unshelf};
+pub use exchange::{downgrade, merge, new, piece, seen, shelf, shelf_size, unshelf};
 pub use taking::{Taken, take};

@@ -10,8 +10,8 @@ use crate::catching::catch_up;
 use byte_io::{LateFile, LateSource};
 use clap::ArgMatches;
 use cli_open::ending::{Done, NotDone, Outcome, all_done};
-use cli_open::engines::CliFault;
 use cli_open::{Rows, answered, office_file, open_register, open_target, word};
+use reg_engine::{CliFault, OutFault, ShelfProblem};
 use reg_take::{LeftOut, TakeEffect, run_take, try_take};
 use std::alloc::{AllocError, Global};
 use std::io;
@@ -40,7 +40,13 @@ pub fn take(rt: &HostRuntime, matches: &ArgMatches<'_>) -> Taken {
         None if matches.get_flag("dry-run") => taken_dry(rt, matches, &mut files),
         None => taken_in(rt, matches, &mut files),
     };
-    joined(taken)
+    match taken {
+        // A dry run on a shelf knows that no shelf can have the register.
+        Err(CliFault::Out(OutFault::TooLarge)) if matches.get_flag("shelf") => {
+            Err(NotDone::Fault(CliFault::Shelf(ShelfProblem::TooLarge)))
+        }
+        taken => joined(taken),
+    }
 }
 
 // A take of files that is done left out what its engine left out.
@@ -53,11 +59,16 @@ fn joined(taken: Result<TakeEffect, CliFault>) -> Taken
                 before,
                 after,
                 left,
+                retired,
             } = effect;
             Ok(Done {
                 left,
                 differs: false,
-                brought: Some(Gained { before, after }),
+                brought: Some(Gained {
+                    before,
+                    after,
+                    retired,
+                }),
             })
         }
         Err(fault) => Err(NotDone::Fault(fault)),

@@ -7,9 +7,7 @@ mod naming;
 mod paths;
 mod sentence;
 
-pub use cli_sentences as sentences;
-pub use cli_words::CommandName;
-pub use heads::FileHead;
+pub use heads::{FileHead, Spoiled};
 pub use naming::SecondLook;
 pub use paths::CommandFiles;
 pub use sentence::{add, explain, explain_word, print_lines, say};

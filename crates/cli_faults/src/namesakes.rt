@@ -1,8 +1,8 @@
 //! Keys that one word of the command line names: letters of their authorities differ in case, or the authority ends at another colon.
-use cli_open::engines::operations::OpId;
-use cli_open::engines::registers::Register;
 use reg_keys::has_key;
+use reg_op::OpId;
 use reg_report::{Row, find_row, is_live, rows};
+use reg_state::Register;
 use std::alloc::{AllocError, Global};
 
 /// Whether an entry that is not retired has another key than this one, although the key of this one names it too. None if the register
@@ -21,6 +21,12 @@ pub fn has_namesake(alloc: Global, register: &Register, entry: OpId) -> Option<b
         }
     }
     Some(false)
+}
+
+/// Whether the register has an entry of the word that is not retired. None if memory runs out.
+pub fn shows(alloc: Global, register: &Register, word: &[u8]) -> Option<bool> {
+    let rows = rows(alloc, register).ok()?;
+    Some(rows.iter().any(|row| is_live(row) && has_key(row, word)))
 }
 
 // The key of the row as a word.

@@ -1,14 +1,14 @@
 //! What is found if the files of a command are read once more after its fault, for the sentence about it.
 use crate::heads::FileHead;
-use crate::namesakes::has_namesake;
+use crate::namesakes::{has_namesake, shows};
 use crate::paths::CommandFiles;
-use cli_open::engines::files::FileFault;
-use cli_open::engines::operations::OpId;
-use cli_open::engines::registers::Register;
-use cli_open::engines::streams::read_up_to;
-use cli_open::engines::{CliFault, InputFault, OfFile, OnShelf, OutFault, Print, Refusal, Store};
+use byte_io::read_up_to;
 use cli_open::{open, open_to_read};
 use cli_sentences::{FileName, Findings, Looks, Paths, SpecialCommand};
+use reg_engine::{CliFault, InputFault, OfFile, OnShelf, OutFault, Print, Refusal, Store};
+use reg_file::FileFault;
+use reg_op::OpId;
+use reg_state::Register;
 use reg_texts::Heading;
 use std::{fs, str};
 
@@ -22,11 +22,18 @@ pub struct SecondLook {
     has_namesake: bool,
     looks: Looks,
     is_written: bool,
+    shows: bool,
 }
 
 impl SecondLook {
-    /// Reads the files again. The entry is the one that the fault is about.
-    pub fn look(rt: &HostRuntime, named: &CommandFiles<'_>, fault: &CliFault) -> SecondLook {
+    /// Reads the files again. The entry is the one that the fault is about, and so is the word of a list, which is empty if it is about
+    /// none.
+    pub fn look(
+        rt: &HostRuntime,
+        named: &CommandFiles<'_>,
+        fault: &CliFault,
+        word: &str,
+    ) -> SecondLook {
         SecondLook {
             head: match taken_by(fault) {
                 Some(entry) => heading(rt, named, entry),
@@ -36,6 +43,10 @@ impl SecondLook {
             looks: looks_of(rt, named, fault),
             is_written: match fault {
                 CliFault::Out(OutFault::WriteFailed(_)) => named.is_written(rt),
+                _ => false,
+            },
+            shows: match fault {
+                CliFault::Refused(Refusal::NoEntry) => is_shown(rt, named, word).unwrap_or(false),
                 _ => false,
             },
         }
@@ -48,6 +59,7 @@ impl SecondLook {
             has_namesake: false,
             looks: Looks::Unknown,
             is_written: false,
+            shows: false,
         }
     }
 
@@ -67,6 +79,7 @@ impl SecondLook {
             has_namesake: self.has_namesake,
             looks: self.looks,
             is_written: self.is_written,
+            shows: self.shows,
         }
     }
 }
@@ -111,6 +124,15 @@ fn is_of_several_keys(
         }
         _ => None,
     }
+}
+
+// Whether the register has an entry of the word that is not retired, without what the office file has.
+fn is_shown(rt: &HostRuntime, named: &CommandFiles<'_>, word: &str) -> Option<bool> {
+    if word.is_empty() || !named.has_office {
+        return None;
+    }
+    let register = read_again(rt, named)?;
+    shows(rt.alloc(), &register, word.as_bytes())
 }
 
 // The key, the id and the status of an entry of the register that the command read, if it has this entry and can be read again.
@@ -203,7 +225,7 @@ fn looks_at(rt: &HostRuntime, path: &str) -> Looks {
 }
 
 fn is_office(rt: &HostRuntime, path: &str) -> Option<bool> {
-    let head = FileHead::at(rt, path)?;
+    let head = FileHead::at(rt, path).ok()??;
     Some(head.is_office())
 }
 

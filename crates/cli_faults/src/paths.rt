@@ -1,9 +1,10 @@
 //! The command and its files, for the sentence about a fault.
+use byte_out::FileId;
 use clap::ArgMatches;
-use cli_open::engines::places::FileId;
-use cli_open::{Name, STANDARD_INPUT, names, office_file, word};
+use cli_open::{STANDARD_INPUT, names, office_file, word};
 use cli_sentences::{FileName, Paths, SpecialCommand};
 use cli_words::{CommandName, CommandRow, Role};
+use csv_table::offices::Name;
 use std::alloc::AllocError;
 use std::fs;
 use std::os::unix::fs::MetadataExt;

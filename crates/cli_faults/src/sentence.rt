@@ -1,9 +1,9 @@
 //! Prints the sentence of a fault, and explanations, below the line of the fault.
 use crate::naming::{SecondLook, paths_at};
 use crate::paths::CommandFiles;
-use cli_open::engines::CliFault;
-use cli_open::{Name, named};
 use cli_sentences::{FileName, Sentence, Shown, ShownLines};
+use csv_table::offices::{Name, named};
+use reg_engine::CliFault;
 use std::alloc::{AllocError, Global};
 use std::{fmt, str};
 
@@ -25,7 +25,7 @@ pub fn explain_word(
 }
 
 fn explain_in(rt: &HostRuntime, fault: CliFault, word: &str, named: &CommandFiles<'_>) {
-    let second = SecondLook::look(rt, named, &fault);
+    let second = SecondLook::look(rt, named, &fault, word);
     let sentence = Sentence {
         fault,
         found: second.found_for(word),

@@ -1,11 +1,13 @@
 //! What an import brought, where sentences are on.
+use byte_io::write_all;
 use clap::ArgMatches;
-use cli_change::{News, say_news};
+use cli_change::say_news;
 use cli_faults::print_lines;
-use cli_open::engines::registers::Register;
-use cli_open::engines::streams::write_all;
 use cli_open::{Rows, answered};
-use desk_lint::{ANY_RULES, entered_text, usual_of};
+use desk_lint::{entered_text, usual_of};
+use reg_lint::ANY_RULES;
+use reg_news::News;
+use reg_state::Register;
 use std::alloc::{AllocError, Global};
 use std::str;
 

@@ -1,13 +1,16 @@
 //! The command `enter`.
+use byte_io::Source;
+use byte_out::Place;
 use clap::ArgMatches;
 use cli_change::{Desk, change_once, office_named, open_desk};
 use cli_open::ending::{Outcome, ended};
-use cli_open::engines::places::Place;
-use cli_open::engines::streams::Source;
 use cli_open::{RegisterTarget, explains, files_before, open, open_target, word};
-use reg_desk::{CliFault, Enter, Explained, Recorded, explained_fault};
+use reg_commands::Enter;
+use reg_desk::{Explained, explained_fault};
+use reg_engine::CliFault;
 use std::alloc::Global;
 use std::fs::File;
+use wkt_explain::Recorded;
 
 /// `enter`. It parses the replica, and then opens the files.
 pub fn enter(rt: &HostRuntime, matches: &ArgMatches<'_>) -> Outcome<Explained> {

@@ -4,32 +4,34 @@ ghost use Rattle.cli_open.specs.Targets.{Admits, IsTriedBy};
 ghost use Rattle.cli_import.specs.Imports.{IsImportOutcome};
 
 use crate::brought::Brought;
+use crate::texts::{late_texts, refuses_own, with_openings};
 use crate::tried::Tried;
-use byte_io::{LateFile, LateSource};
+use byte_disk::FileDisk;
+use byte_io::{Reading, Source, Writing};
+use byte_out::{InputOf, Place};
 use clap::ArgMatches;
-use cli_change::{Desk, Notes, TWICE, Watched, office_named, open_desk};
+use cli_change::{Desk, TWICE, office_named, open_desk};
 use cli_open::ending::{NotDone, Outcome, all_done};
-use cli_open::engines::places::Place;
-use cli_open::engines::{Either, Keep};
-use cli_open::guards::{OfficeFile, TriedFile, TriedShelf};
 use cli_open::{
-    RegisterTarget, Rows, STANDARD_INPUT, STANDARD_INPUT_PATH, answered, explains, files_before,
-    is_twice, open_target, word,
+    RegisterTarget, Rows, answered, explains, files_before, is_twice, open_target, word,
 };
-use reg_desk::{
-    CliFault, Differs, FileDisk, HasRoom, ImportFault, ImportOptions, InputFault, InputOf, OfFile,
-    OnShelf, Reading, Source, Unimported, Writing, run_import, try_import,
-};
+use reg_desk::{HasRoom, ImportOptions, Unimported, run_import, try_import};
+use reg_engine::{CliFault, Either, Keep, OfFile, OnShelf};
+use reg_guard::{TriedFile, TriedShelf};
+use reg_import::Differs;
+use reg_journal::OfficeFile;
+use reg_news::watch::{Notes, Watched};
 use std::alloc::{AllocError, Global};
 use std::fs::{File, OpenFile};
 use std::io::{self, Read, Seek, Write};
-use std::rt::Files;
 
 /// Why texts were not imported, or not all of them, and what the others brought, if sentences are on.
 #[derive(Drop)]
 pub struct NotImported {
     pub why: Unimported,
     pub brought: Brought,
+    /// Whether the refused text is a file of crsreg, which no option takes for a text.
+    pub is_own: bool,
 }
 
 /// How an import ended, and what it brought, if sentences are on.
@@ -40,6 +42,7 @@ fn unbegun(alloc: Global, fault: CliFault) -> ImportOutcome {
     Err(NotDone::Fault(NotImported {
         why: Unimported::plain(alloc, fault),
         brought: Brought::nothing(alloc),
+        is_own: false,
     }))
 }
 
@@ -61,18 +64,36 @@ pub fn import(rt: &HostRuntime, matches: &ArgMatches<'_>) -> ImportOutcome {
         Err(fault) => return unbegun(rt.alloc(), fault),
     };
     let mut brought = Brought::nothing(rt.alloc());
-    let answer = import_at(rt, matches, &mut desk, paths, &names, &mut brought);
+    let mut is_own = false;
+    let answer = import_at(
+        rt,
+        matches,
+        &mut desk,
+        paths,
+        &names,
+        &mut brought,
+        &mut is_own,
+    );
     desk.close();
-    outcome_of(rt.alloc(), answer, brought)
+    outcome_of(rt.alloc(), answer, brought, is_own)
 }
 
-// The outcome of an import that brought this.
-fn outcome_of(alloc: Global, answer: Result<(), Unimported>, brought: Brought) -> ImportOutcome
-    ensures { IsImportOutcome answer brought result }
+// The outcome of an import that brought this. If a text was refused, it was a file of crsreg or not.
+fn outcome_of(
+    alloc: Global,
+    answer: Result<(), Unimported>,
+    brought: Brought,
+    is_own: bool,
+) -> ImportOutcome
+    ensures { IsImportOutcome answer brought is_own result }
 {
     match answer {
         Ok(()) => Ok(all_done(alloc, brought)),
-        Err(why) => Err(NotDone::Fault(NotImported { why, brought })),
+        Err(why) => Err(NotDone::Fault(NotImported {
+            why,
+            brought,
+            is_own,
+        })),
     }
 }
 
@@ -84,7 +105,7 @@ fn names_of(alloc: Global, paths: &[&str]) -> Result<Vec<String>, AllocError> {
     Ok(names)
 }
 
-// Opens the register, imports the files, and prints the rows.
+// Opens the register, imports the files, and prints the rows. Notes whether the first refused text is a file of crsreg.
 fn import_at<Q: Place>(
     rt: &HostRuntime,
     matches: &ArgMatches<'_>,
@@ -92,6 +113,7 @@ fn import_at<Q: Place>(
     paths: &[&str],
     names: &[String],
     brought: &mut Brought,
+    is_own: &mut bool,
 ) -> Result<(), Unimported> {
     let target = match open_target(rt, matches, out_of(matches)) {
         Ok(target) => target,
@@ -102,6 +124,7 @@ fn import_at<Q: Place>(
     };
     let first = target.next().saturating_add(files_before(matches));
     let answer = import_from(rt, matches, desk, target, &mut files, names, brought);
+    *is_own = refuses_own(&answer, &files, first);
     with_openings(rt.alloc(), answer, &files, first)
 }
 
@@ -119,62 +142,6 @@ fn differs(word: &str) -> Differs {
         "beside" => Differs::Beside,
         "revise" => Differs::Revise,
         _ => Differs::Refuse,
-    }
-}
-
-// The files of texts, which are opened one after another; `-` is standard input.
-fn late_texts<'a, R: Files>(
-    rt: &'a R,
-    alloc: Global,
-    paths: &[&'a str],
-) -> Result<Vec<LateFile<'a, R>>, AllocError> {
-    let mut files = Vec::new(alloc);
-    for path in paths {
-        let path = if *path == STANDARD_INPUT {
-            STANDARD_INPUT_PATH
-        } else {
-            *path
-        };
-        files.push(LateFile::new(rt, path))?;
-    }
-    Ok(files)
-}
-
-// Turns "could not be read" into `NotOpened` for files that did not open. The first file has this number.
-fn with_openings<S: LateSource>(
-    alloc: Global,
-    answer: Result<(), Unimported>,
-    files: &[S],
-    first: usize,
-) -> Result<(), Unimported> {
-    match answer {
-        Ok(()) => Ok(()),
-        Err(why) => {
-            let Unimported { fault, notes } = why;
-            match fault {
-                ImportFault::Cli(fault) => {
-                    let fault = fault_of_opening(fault, files, first);
-                    Err(Unimported::plain(alloc, fault))
-                }
-                fault => Err(Unimported { fault, notes }),
-            }
-        }
-    }
-}
-
-fn fault_of_opening<S: LateSource>(fault: CliFault, files: &[S], first: usize) -> CliFault {
-    let CliFault::File { number, .. } = fault else {
-        return fault;
-    };
-    let Some(i) = number.checked_sub(first) else {
-        return fault;
-    };
-    match files.get(i) {
-        Some(file) if file.is_shut() => CliFault::File {
-            number,
-            fault: InputFault::NotOpened,
-        },
-        _ => fault,
     }
 }
 
@@ -264,16 +231,27 @@ fn import_and_note<T: Keep, S: Source, W: Write>(
         };
         run_import(rt.alloc(), &mut watched, files, order, sink)
     };
+    note_all(rt, matches, order, &notes, brought);
+    answer
+}
+
+// Notes what was brought, and with `--lint` what an expert would ask about it.
+fn note_all(
+    rt: &HostRuntime,
+    matches: &ArgMatches<'_>,
+    order: &ImportOptions<'_>,
+    notes: &Notes,
+    brought: &mut Brought,
+) {
     if let Ok(told) = notes.news(rt.alloc()) {
         brought.news = told;
     }
     if lints(matches, order) {
         brought.ask(rt, matches, &notes.loaded, &notes.kept);
     }
-    answer
 }
 
-// `import --dry-run`, which opens no OUT.
+// `import --dry-run`, which opens no OUT. If texts are explained, what it would bring is noted.
 fn import_tried<F: Read + Write + Seek + OpenFile + Drop, P: Place + Drop, S: Source, W: Write>(
     rt: &HostRuntime,
     matches: &ArgMatches<'_>,
@@ -286,7 +264,7 @@ fn import_tried<F: Read + Write + Seek + OpenFile + Drop, P: Place + Drop, S: So
 ) -> Result<(), Unimported> {
     let mut target = target;
     let mut store = tried(&mut target, office);
-    let answer = if lints(matches, order) {
+    let answer = if order.explain {
         try_and_note(rt, matches, &mut store, files, order, sink, brought)
     } else {
         try_import(rt.alloc(), &mut store, files, order, sink)
@@ -311,7 +289,16 @@ fn try_and_note<T: HasRoom, S: Source, W: Write>(
         fitting: None,
     };
     let answer = try_import(rt.alloc(), &mut tried, files, order, sink);
-    brought.ask(rt, matches, &tried.loaded, &tried.fitting);
+    let Tried {
+        store: _,
+        loaded,
+        fitting,
+    } = tried;
+    let notes = Notes {
+        loaded,
+        kept: fitting,
+    };
+    note_all(rt, matches, order, &notes, brought);
     answer
 }
 

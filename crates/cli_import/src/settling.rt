@@ -2,9 +2,9 @@
 use clap::ArgMatches;
 use cli_change::{TWICE, changed, office_named, open_desk};
 use cli_open::ending::{NotDone, Outcome, ended};
-use cli_open::engines::CliFault;
 use cli_open::{entries, is_twice, listed, push_listed, word};
 use reg_desk::{Settle, SettleEqual};
+use reg_engine::CliFault;
 
 /// `settle`.
 pub fn settle(rt: &HostRuntime, matches: &ArgMatches<'_>) -> Outcome<CliFault> {

@@ -1,8 +1,8 @@
 //! A store of a dry run, which notes the register that is loaded and the one that would be kept.
 use crate::brought::NotedRegister;
-use cli_open::engines::registers::Register;
-use cli_open::engines::{CliFault, Store};
 use reg_desk::HasRoom;
+use reg_engine::{CliFault, Store};
+use reg_state::Register;
 use std::alloc::Global;
 
 /// A store that only tells whether it has room, with copies of the register that was loaded from it and of the one for which it had

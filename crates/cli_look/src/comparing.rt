@@ -1,18 +1,21 @@
 //! `compare`: what differs between the texts of entries, and of a file.
 use crate::look::tells;
+use byte_io::{Source, Writing};
 use clap::ArgMatches;
 use cli_open::ending::{NotDone, Outcome, compared};
 use cli_open::{entry, explains, next_file, open_register, open_text, word};
-use reg_desk::{
-    ByWord, CliFault, ImportFault, OpId, Print, Problem, Recorded, Source, Unimported, Writing,
-    explain_within,
-};
+use reg_commands::ByWord;
+use reg_desk::{ImportFault, Unimported};
+use reg_engine::{CliFault, Print};
+use reg_import::Problem;
+use reg_op::OpId;
 use reg_texts::{
     Compare, CompareKey, CompareWith, WithFault, run_compared_where_read, run_compared_with,
     run_differs,
 };
 use std::alloc::Global;
 use std::io;
+use wkt_explain::{Recorded, explain_within};
 
 /// The message if an id is compared with nothing.
 const ALONE: &str = "error: compare needs a key, two entries, or --with FILE; one id is not enough";

@@ -10,5 +10,4 @@ mod reporting;
 pub use comparing::compare;
 pub use linting::lint;
 pub use look::{check, diff, find, log, offices, say_hidden, status, texts};
-pub use reg_desk as desk;
 pub use reporting::report;

@@ -1,17 +1,18 @@
 //! `lint`: what an expert would ask about the entries of a register, or about texts.
 use crate::comparing::with_plain_fault;
 use crate::look::tells;
+use byte_io::{Reading, Source, Writing};
 use clap::ArgMatches;
 use cli_open::ending::{NotDone, Outcome, compared};
 use cli_open::{Rows, answered, explains, is_twice, next_file, open, open_register, open_text};
-use desk_lint::{
-    ANY_RULES, AnyRule, KeptSubject, TextsFault, read_texts, run_lint, run_lint_kept, usual_of,
-};
-use reg_desk::{
-    CliFault, ImportFault, Problem, Reading, Recorded, Source, Unimported, Writing, explain_within,
-};
+use desk_lint::{TextsFault, read_texts, run_lint, run_lint_kept, usual_of};
+use reg_desk::{ImportFault, Unimported};
+use reg_engine::CliFault;
+use reg_import::Problem;
+use reg_lint::{ANY_RULES, AnyRule, KeptSubject};
 use std::alloc::{AllocError, Global};
 use std::io::{self, Write};
+use wkt_explain::{Recorded, explain_within};
 
 /// The message if a rule is named that does not exist.
 const NO_RULE: &str =

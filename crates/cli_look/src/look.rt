@@ -3,7 +3,9 @@
 ghost use Rattle.cli_open.specs.Outcome.{IsComparedBy};
 ghost use Rattle.reg_desk.specs.declared.comparison.Comparison.{Comparison};
 
-use byte_io::LateFile;
+use byte_disk::FileDisk;
+use byte_io::{LateFile, Reading, Source, Writing};
+use byte_out::Lockable;
 use clap::ArgMatches;
 use cli_faults::{CommandFiles, say};
 use cli_open::ending::{NotDone, Outcome, difference, ended};
@@ -11,16 +13,20 @@ use cli_open::{
     Rows, STANDARD_INPUT, answered, entries, explains, next_file, open, open_all, open_register,
     open_to_read, print_of, push_words, wanted, word,
 };
+use crs_value::search::{Kind, Point};
+use reg_commands::run_check;
 use reg_desk::{
-    CliFault, Comparison, Explained, FileDisk, Find, FindIds, Kind, LateAt, Lockable, LogAll,
-    LogByWords, LogOf, Offices, OpenedDisk, Point, Query, Reading, Recorded, ShelfAt, Source,
-    Writing, run_check, run_check_explained, run_diff, run_status,
+    Comparison, Explained, Find, FindIds, LateAt, LogAll, LogByWords, LogOf, Offices, OpenedDisk,
+    ShelfAt, run_check_explained, run_diff, run_status,
 };
+use reg_engine::{CliFault, ShelfProblem};
 use reg_news::gained::hidden_in;
+use reg_query::Query;
 use reg_texts::Texts;
 use std::alloc::{AllocError, Global};
 use std::io::{self, Write};
 use std::rt::Files;
+use wkt_explain::Recorded;
 
 /// The message if a word to search for is empty, as in a script with a variable that is not set: it would find every entry.
 const NO_WORD: &str = "error: WORD, or the value of an option, is empty: is a variable not set?";
@@ -206,7 +212,7 @@ fn files_at<'a, R: Files>(
     Ok(files)
 }
 
-// Opens all shelves that can be opened.
+// Opens all shelves that can be opened, unless another command has one.
 fn opened_shelves<R: Files>(
     rt: &R,
     alloc: Global,
@@ -219,7 +225,8 @@ where
     for path in paths {
         let shelf = match open_to_read(rt, *path) {
             Ok(disk) => OpenedDisk::Source(disk),
-            Err(_) => OpenedDisk::NotOpened,
+            Err(CliFault::Shelf(problem)) => OpenedDisk::Unopened(problem),
+            Err(_) => OpenedDisk::Unopened(ShelfProblem::NotOpened),
         };
         shelves.push(ShelfAt { opened: shelf })?;
     }

@@ -1,7 +1,11 @@
 //! The reports of a register.
 use clap::ArgMatches;
 use cli_open::{print_of, word};
-use reg_desk::{Amiss, CliFault, Disorder, Report, ReportKind};
+use reg_commands::Report;
+use reg_desk::Amiss;
+use reg_disorder::Disorder;
+use reg_engine::CliFault;
+use reg_report::ReportKind;
 
 /// `report`, if there is one of the kind.
 pub fn report(rt: &HostRuntime, matches: &ArgMatches<'_>) -> Option<Result<(), CliFault>> {

@@ -2,10 +2,10 @@
 
 ghost use Rattle.std.specs.Prelude.{◌≡◌, Ok, true, bytes_eq};
 
+use byte_io::Reading;
+use byte_out::{FileId, InputOf};
 use clap::ArgMatches;
-use reg_guard::engine::places::{FileId, InputOf};
-use reg_guard::engine::streams::Reading;
-use reg_guard::engine::{CliFault, InputFault};
+use reg_engine::{CliFault, InputFault};
 use std::alloc::Global;
 use std::fs;
 use std::io::ErrorKind;

@@ -28,9 +28,3 @@ pub use words::{
     is_twice, listed, office_file, open, open_all, open_text, place, printing_place, push_listed,
     push_words, replica, wanted, word,
 };
-
-// The crates of which the commands above use items, so that they need only this one.
-pub use byte_place::{HostSystem, NewPlace, OutPlace};
-pub use csv_table::offices::{Name, named};
-pub use reg_guard as guards;
-pub use reg_guard::engine as engines;

@@ -1,6 +1,6 @@
 //! The lines that a command prints, and the line of a fault.
-use reg_guard::engine::streams::{Writing, write_all};
-use reg_guard::engine::{CliFault, OutFault};
+use byte_io::{Writing, write_all};
+use reg_engine::{CliFault, OutFault};
 use std::fmt;
 use std::io::{self, Write};
 

@@ -4,10 +4,10 @@ ghost use Rattle.std.specs.Prelude.{◌≡◌};
 ghost use Rattle.cli_open.specs.NameFaults.{is_memory, names_status};
 
 use crate::words::open;
+use byte_io::{InFault, read_up_to};
 use clap::ArgMatches;
 use csv_table::offices::{Name, NamesFault, read};
-use reg_guard::engine::CliFault;
-use reg_guard::engine::streams::{InFault, read_up_to};
+use reg_engine::CliFault;
 use std::alloc::Global;
 use std::{fmt, fs};
 

@@ -4,19 +4,22 @@ ghost use Rattle.std.specs.Prelude.{◌≡◌, IfOk, OnOk, None, true};
 ghost use Rattle.byte_io.specs.Device.{target_of};
 ghost use Rattle.byte_out.specs.Place.{untold};
 ghost use Rattle.byte_place.specs.Ways.{is_beside};
+ghost use Rattle.reg_engine.specs.declared.fault.CliFault.TheVariants as cli;
+ghost use Rattle.reg_engine.specs.declared.fault.InputFault.TheVariants as file;
 ghost use Rattle.reg_journal.specs.Text.{FindsOffice};
 ghost use Rattle.cli_open.specs.Offices.{Makes, MakesNone};
 
 use crate::waiting::patience;
 use crate::words::place;
 use byte_io::{LateFile, LateSource};
+use byte_out::Place;
 use byte_place::OutPlace;
-use reg_guard::engine::CliFault;
-use reg_guard::engine::places::Place;
-use reg_guard::{OfficeFile, busy, lock_office, office_in, unopened};
+use reg_engine::{CliFault, InputFault};
+use reg_guard::{busy, lock_office, office_in, unopened};
+use reg_journal::OfficeFile;
 use std::alloc::Global;
 use std::fs;
-use std::os::unix::fs::MetadataExt;
+use std::os::unix::fs::{FileTypeExt, MetadataExt};
 use std::rt::Files;
 
 /// What an office file has, and its place, where the new one is made already.
@@ -37,6 +40,9 @@ pub fn open_office<'a>(
 {
     if has_second_name(rt, path) {
         return Err(unopened());
+    }
+    if is_pipe(rt, path) {
+        return Err(not_office());
     }
     let mut place = place(rt, alloc, path)?;
     match read_locked(rt, alloc, &mut place, &mut LateFile::new(rt, path)) {
@@ -94,7 +100,27 @@ fn has_second_name<R: Files>(rt: &R, path: &str) -> bool {
     }
 }
 
+// Whether there is a pipe, which is no office file. It could block whoever opens it.
+fn is_pipe<R: Files>(rt: &R, path: &str) -> bool {
+    match fs::metadata(rt, path) {
+        Ok(there) => there.file_type().is_fifo(),
+        Err(_) => false,
+    }
+}
+
+fn not_office() -> CliFault
+    ensures { result ≡ cli.File 1 file.NotOffice }
+{
+    CliFault::File {
+        number: 1,
+        fault: InputFault::NotOffice,
+    }
+}
+
 /// What the office file at this path has.
 pub fn office_at<R: Files>(rt: &R, alloc: Global, path: &str) -> Result<OfficeFile, CliFault> {
+    if is_pipe(rt, path) {
+        return Err(not_office());
+    }
     office_of(alloc, &mut LateFile::new(rt, path))
 }

@@ -2,11 +2,11 @@
 
 ghost use Rattle.std.specs.Prelude.{◌≡◌, Some};
 
-use reg_engine::disks::Disk;
-use reg_engine::files::Register;
-use reg_engine::places::Input;
-use reg_engine::streams::Source;
+use byte_disk::Disk;
+use byte_io::Source;
+use byte_out::Input;
 use reg_engine::{Base, CliFault, OnShelf, ShelfProblem, Store, read_file};
+use reg_file::Register;
 use std::alloc::Global;
 
 /// A register's file, which is file 1.

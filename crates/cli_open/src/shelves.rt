@@ -4,9 +4,9 @@ ghost use Rattle.std.specs.Prelude.{◌≡◌};
 ghost use Rattle.cli_open.specs.Locks.{lock_problem};
 
 use crate::words::STANDARD_OUTPUT_PATH;
-use reg_guard::engine::disks::FileDisk;
-use reg_guard::engine::places::{FileId, Lock, Lockable};
-use reg_guard::engine::{CliFault, ShelfProblem};
+use byte_disk::FileDisk;
+use byte_out::{FileId, Lock, Lockable};
+use reg_engine::{CliFault, ShelfProblem};
 use std::fs::{self, OpenOptions};
 use std::rt::Files;
 

@@ -1,10 +1,10 @@
 //! The rows that a command prints, or with `--table` the table of them.
 use crate::naming::names_again;
+use byte_io::Writing;
 use clap::ArgMatches;
 use csv_table::offices::{Name, with_names};
 use csv_table::{TableFault, told_as_table};
-use reg_guard::engine::streams::Writing;
-use reg_guard::engine::{CliFault, OutFault};
+use reg_engine::{CliFault, OutFault};
 use std::alloc::{AllocError, Global};
 use std::io::{self, ErrorKind, Write};
 

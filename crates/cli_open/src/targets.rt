@@ -9,13 +9,14 @@ use crate::offices::OpenOffice;
 use crate::shelves::open_shelf;
 use crate::waiting::reserve;
 use crate::words::{changed_place, files_before, word};
+use byte_disk::FileDisk;
+use byte_io::Reading;
+use byte_out::InputOf;
 use byte_place::OutPlace;
 use clap::ArgMatches;
-use reg_guard::engine::disks::FileDisk;
-use reg_guard::engine::places::InputOf;
-use reg_guard::engine::streams::Reading;
-use reg_guard::engine::{CliFault, Either, InFile, OnShelf};
-use reg_guard::{GuardedFile, GuardedShelf, OfficeFile};
+use reg_engine::{CliFault, Either, InFile, OnShelf};
+use reg_guard::{GuardedFile, GuardedShelf};
+use reg_journal::OfficeFile;
 use std::fs::File;
 
 /// A register that a command changes: its file and the place of the next one, or its shelf.

@@ -1,7 +1,7 @@
 //! The new file of OUT, if a command reads OUT too. It is made before OUT is opened, so commands on one file go one after another.
+use byte_out::FileId;
 use byte_place::OutPlace;
-use reg_guard::engine::places::FileId;
-use reg_guard::engine::{CliFault, OutFault};
+use reg_engine::{CliFault, OutFault};
 use std::env::{self, VarError};
 use std::time::Duration;
 

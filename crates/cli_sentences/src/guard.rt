@@ -1,7 +1,7 @@
 //! Sentences for commands with an office file.
 use crate::paths::{FileName, Paths, RegisterArgument, SpecialCommand};
 use crate::shown::NewBeside;
-use reg_guard::engine::operations::OpId;
+use reg_op::OpId;
 use std::fmt;
 
 /// Writes the sentence for a register that knows no number of the office, and the ways out.
@@ -94,7 +94,7 @@ pub fn write_busy<W: fmt::Write>(f: &mut fmt::Formatter<W>, office: FileName<'_>
     let new = NewBeside(path);
     writeln!(
         f,
-        "{new} is there: another command of this office works\nhint: run this command again; if no crsreg runs, remove {new}"
+        "{new} is there: another command of this office works, or was stopped on another machine\nhint: run this command again; if no crsreg runs on any machine, remove {new}"
     )
 }
 

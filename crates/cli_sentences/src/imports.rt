@@ -1,11 +1,15 @@
 //! The sentence for a refused import.
 use crate::paths::{FileName, Paths, RegisterArgument, SpecialCommand};
 use crate::shown::EntryHead;
-use reg_guard::engine::operations::OpId;
+use reg_op::OpId;
 use std::fmt;
 
 /// The hint below a text that ends the command.
 pub const LEAVES_OUT: &str = "hint: --keep-going leaves it out";
+
+/// The hint below a file of crsreg in the place of texts, which no option enters.
+pub const TAKE_JOINS: &str =
+    "hint: a file of crsreg has no texts to import: crsreg take joins a register or a piece to REG";
 
 /// The sentence of `KeyTaken`, and the way out. A text that cannot be read has none: it is explained at its place.
 #[derive(Clone, Copy)]

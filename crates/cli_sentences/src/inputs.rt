@@ -1,8 +1,8 @@
 //! Sentences for files that cannot be read.
 use crate::guard;
 use crate::paths::{FileName, Looks, Paths, SpecialCommand};
-use reg_guard::engine::InputFault;
-use reg_guard::engine::files::FileFault;
+use reg_engine::InputFault;
+use reg_file::FileFault;
 use std::fmt;
 
 /// The number of open files from which a command may have too many of them.

@@ -10,10 +10,10 @@ mod refusals;
 mod shelves;
 mod shown;
 
-pub use imports::{KeyTaken, LEAVES_OUT};
+use byte_office::OfficeFileFault;
+pub use imports::{KeyTaken, LEAVES_OUT, TAKE_JOINS};
 pub use paths::{FileName, Findings, Looks, Paths, SpecialCommand};
-use reg_guard::OfficeFileFault;
-use reg_guard::engine::CliFault;
+use reg_engine::CliFault;
 pub use shown::{Shown, ShownLines};
 use std::fmt;
 

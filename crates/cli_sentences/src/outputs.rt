@@ -1,7 +1,7 @@
 //! Sentences for files that cannot be written.
 use crate::paths::{Paths, SpecialCommand};
 use crate::shown::{NewBeside, Shown};
-use reg_guard::engine::OutFault;
+use reg_engine::OutFault;
 use std::fmt;
 
 /// Writes the sentence for a fault of the output, which the command has written before the fault or not.
@@ -15,11 +15,13 @@ pub fn write<W: fmt::Write>(
     match fault {
         OutFault::NotOpened => write_not_opened(f, paths),
         OutFault::NewExists => write_new_exists(f, paths),
-        OutFault::TooLarge => f.write_str("the new file would have more than 67,108,864 bytes\n"),
+        OutFault::TooLarge => f.write_str(
+            "the new file would have more than 67,108,864 bytes\nhint: equal texts of several offices all count: let one office import an authority and the others take its register, or keep a register for each authority\n",
+        ),
         OutFault::WriteFailed(written) => write_failed(f, written, is_written, paths),
         OutFault::ReadFailed(read) => writeln!(
             f,
-            "{out} could be read again for {read} bytes only, so it was not replaced"
+            "{out} could be read for {read} bytes only, so it was not replaced"
         ),
         OutFault::Changed => {
             writeln!(
@@ -40,7 +42,7 @@ fn write_not_opened<W: fmt::Write>(f: &mut fmt::Formatter<W>, paths: &Paths<'_>)
     match paths.command {
         SpecialCommand::Office => writeln!(
             f,
-            "{out} cannot be made: it exists already, its folder is not there, you may not write there, or its name has more than 247 bytes"
+            "{out} cannot be made: it exists already, its folder is not there, you may not write there, or its name has more than 230 bytes"
         ),
         SpecialCommand::Export => writeln!(
             f,
@@ -65,7 +67,7 @@ fn write_new_exists<W: fmt::Write>(f: &mut fmt::Formatter<W>, paths: &Paths<'_>)
             let new = NewBeside(paths.out);
             writeln!(
                 f,
-                "{new} is there: another command writes {out}\nhint: run this command again; if no crsreg runs, remove {new}"
+                "{new} is there: another command writes {out}, or was stopped on another machine\nhint: run this command again; if no crsreg runs on any machine, remove {new}"
             )
         }
     }

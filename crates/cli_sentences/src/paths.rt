@@ -153,4 +153,6 @@ pub struct Findings<'a> {
     pub looks: Looks,
     /// Whether the command has replaced its output or changed its shelf, as far as can be seen.
     pub is_written: bool,
+    /// Whether the register has an entry of the word that is not retired, although the command found none.
+    pub shows: bool,
 }

@@ -2,9 +2,9 @@
 use crate::guard;
 use crate::paths::{Findings, Paths, RegisterArgument, SpecialCommand};
 use crate::shown::{EntryHead, Shown};
-use reg_guard::engine::Refusal;
-use reg_guard::engine::offices::OfficeFault;
-use reg_guard::engine::operations::OpId;
+use reg_engine::Refusal;
+use reg_office::OfficeFault;
+use reg_op::OpId;
 use std::fmt;
 
 /// Writes the sentence for a refusal. Faults of texts have none: `--explain` explains them at their place.
@@ -133,7 +133,7 @@ fn write_word<W: fmt::Write>(
             "--as (or CRSREG_AS) is not a UUID\nhint: uuidgen makes one, once for each office; crsreg office makes an office file with one\n",
         ),
         Refusal::BadSize => f.write_str("a shelf has from 14 to 67,108,864 bytes\n"),
-        Refusal::NoEntry => write_no_entry(f, found.word, paths),
+        Refusal::NoEntry => write_no_entry(f, found, paths),
         Refusal::Several(id) => write_several(f, id, found, paths),
         Refusal::Unsettled => f.write_str(
             "a register has a conflict, an awaited id, a gap, a key with equal texts or a superseded entry without a valid heir\nhint: crsreg report lists them; crsreg settle ends a conflict, and settle --equal equal texts\n",
@@ -194,7 +194,7 @@ fn write_namesakes<W: fmt::Write>(
 // A word that names no entry.
 fn write_no_entry<W: fmt::Write>(
     f: &mut fmt::Formatter<W>,
-    word: &str,
+    found: &Findings<'_>,
     paths: &Paths<'_>,
 ) -> fmt::Result {
     let register = Shown(paths.register);
@@ -204,12 +204,17 @@ fn write_no_entry<W: fmt::Write>(
             "{register} has no such entry\nhint: crsreg find prints its entries"
         );
     }
-    match word {
+    let word = Shown(found.word);
+    if found.shows {
+        writeln!(
+            f,
+            "the office has retired each entry {word} that {register} has"
+        )?;
+        return guard::write_again(f, paths);
+    }
+    match found.word {
         "" => writeln!(f, "{register} has no such entry that is not retired")?,
-        word => {
-            let word = Shown(word);
-            writeln!(f, "{register} has no entry {word} that is not retired")?;
-        }
+        _ => writeln!(f, "{register} has no entry {word} that is not retired")?,
     }
     let register = RegisterArgument::of(paths);
     writeln!(

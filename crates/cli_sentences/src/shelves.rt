@@ -1,7 +1,7 @@
 //! Sentences for shelves that cannot be read or changed.
 use crate::paths::{Paths, SpecialCommand};
 use crate::shown::Shown;
-use reg_guard::engine::ShelfProblem;
+use reg_engine::ShelfProblem;
 use std::fmt;
 
 /// Writes the sentence for a problem of the shelf.

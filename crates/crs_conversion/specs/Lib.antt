@@ -1,6 +1,12 @@
+pub mod Kinds
 pub mod Scale
-pub mod Parallels
-pub mod FalseUnit
-pub mod Packed
-pub mod Quantity
 pub mod Angle
+pub mod Quantity
+pub mod Packed
+pub mod FalseUnit
+pub mod Parallels
+pub mod Round
+pub mod Radian
+pub mod Codes
+pub mod Needs
+pub mod Operation

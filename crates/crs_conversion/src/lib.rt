@@ -1,16 +1,25 @@
-//! Rules of sense about conversions: their parameters, and angles in packed units.
+//! Rules of sense about conversions: their methods, their parameters and the units of these.
 #![tactic(auto)]
 
 mod angle;
-mod false_unit;
+mod axis_unit;
+mod codes;
+mod kinds;
+mod needs;
+mod operation;
 mod packed;
 mod parallels;
 mod quantity;
+mod radian;
+mod round;
 mod scale;
+mod tables;
 
-pub use angle::{breaks_angle, tell_angle};
-pub use false_unit::{breaks_false_unit, tell_false_unit};
-pub use packed::{breaks_packed, is_packed_unit, tell_packed};
-pub use parallels::{breaks_parallels, tell_parallels};
-pub use quantity::{breaks_quantity, is_angle_name, tell_quantity};
-pub use scale::{breaks_scale, tell_scale};
+pub use angle::odd_angle;
+pub use axis_unit::odd_false_unit;
+pub use operation::odd_operation;
+pub use packed::odd_packed;
+pub use parallels::odd_parallels;
+pub use quantity::odd_quantity;
+pub use radian::odd_radian;
+pub use scale::odd_scale;

@@ -1,59 +1,61 @@
 //! Standard parallels that are equal or opposite.
 
-ghost use Rattle.std.specs.Prelude.{◌≡◌, IfOk};
+ghost use Rattle.std.specs.Prelude.{◌≡◌};
 ghost use Rattle.std.specs.List.{find};
 ghost use Rattle.std.specs.Option.{option_map};
-ghost use Rattle.crs_exact.specs.Parts.{parameters_of};
-ghost use Rattle.crs_conversion.specs.Parallels.{is_first_parallel, is_second_parallel, parallels, parallels_said, parallels_told};
+ghost use Rattle.crs_exact.specs.Said.{sentence};
+ghost use Rattle.crs_conversion.specs.Parallels.{is_first_parallel, is_second_parallel, is_same_unit, are_same, parallels};
 
-use crs_exact::{is_named, is_same_size, joined, number, parameters_of};
-use crs_number::Decimal;
-use crs_part::{Parameter, Single};
-use std::alloc::{AllocError, Global};
+use crs_exact::{END, Finding, Piece, is_named, is_same_size, parameters_of, unit_of};
+use crs_part::{Parameter, Single, Unit};
 
-/// Whether two standard parallels of the system are equal or opposite.
-pub fn breaks_parallels(crs: &Single) -> bool
-    ensures { result ≡ parallels crs.now }
+/// The two standard parallels of a system, if they are equal or opposite.
+pub fn odd_parallels(crs: &Single) -> Option<Finding<'_>>
+    ensures { option_map sentence result ≡ parallels crs.now }
 {
     let parameters = parameters_of(crs);
     let Some(first) = first_parallel(parameters) else {
-        return false;
+        return None;
     };
     let Some(second) = second_parallel(parameters) else {
-        return false;
+        return None;
     };
-    is_same_size(first.value, second.value)
+    if !are_same(first, second) {
+        return None;
+    }
+    Some(Finding::of_words([
+        Piece::Text(b"the standard parallels are "),
+        Piece::Number(&first.value),
+        Piece::Text(b" and "),
+        Piece::Number(&second.value),
+        Piece::Text(b": equal ones make a tangent cone, and opposite ones make none"),
+        END,
+        END,
+        END,
+        END,
+        END,
+        END,
+        END,
+    ]))
 }
 
-/// The standard parallels of the system.
-pub fn tell_parallels(alloc: Global, crs: &Single) -> Result<Vec<u8>, AllocError>
-    ensures { IfOk result (λ text. text.items ≡ parallels_told (find is_first_parallel (parameters_of crs.now)) (find is_second_parallel (parameters_of crs.now))) }
+fn are_same(first: &Parameter, second: &Parameter) -> bool
+    ensures { result ≡ are_same first.now second.now }
 {
-    let parameters = parameters_of(crs);
-    let Some(first) = first_parallel(parameters) else {
-        return Ok(Vec::new(alloc));
-    };
-    let Some(second) = second_parallel(parameters) else {
-        return Ok(Vec::new(alloc));
-    };
-    parallels_said(alloc, first.value, second.value)
+    is_same_size(first.value, second.value) && is_same_unit(&first.unit, &second.unit)
 }
 
-fn parallels_said(alloc: Global, first: Decimal, second: Decimal) -> Result<Vec<u8>, AllocError>
-    ensures { IfOk result (λ text. text.items ≡ parallels_said first second) }
+fn is_same_unit(first: &Option<Unit>, second: &Option<Unit>) -> bool
+    ensures { result ≡ is_same_unit first.now second.now }
 {
-    let first = number(alloc, first)?;
-    let second = number(alloc, second)?;
-    joined(
-        alloc,
-        &[
-            b"the standard parallels are ",
-            &first,
-            b" and ",
-            &second,
-            b": equal or opposite ones make no cone of two",
-        ],
-    )
+    match (first, second) {
+        (Some(first), Some(second)) => {
+            is_same_size(unit_of(first).factor, unit_of(second).factor)
+        }
+        (Some(_), None) => false,
+        (None, Some(_)) => false,
+        (None, None) => true,
+    }
 }
 
 fn first_parallel(parameters: &[Parameter]) -> Option<&Parameter>

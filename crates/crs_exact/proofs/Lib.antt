@@ -1,2 +1,3 @@
-mod SizeLemmas
 mod NameLemmas
+mod SizeLemmas
+mod RowLemmas

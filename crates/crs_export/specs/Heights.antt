@@ -1,5 +1,5 @@
 -- What PROJ's tables take of a vertical reference system.
-use Rattle.std.specs.Prelude.{ℕ, Bool, ◌&&◌, List, [], Option, Some, None, if◌then◌else◌}
+use Rattle.std.specs.Prelude.{ℕ, Bool, ◌&&◌, List, [], codes, Option, Some, None, if◌then◌else◌}
 use Rattle.std.specs.Borrow.{Bor}
 use Rattle.crs_number.specs.declared.decimals.Decimal.{Decimal}
 use Rattle.crs_part.specs.Words.{direction_word}
@@ -15,7 +15,6 @@ use Rattle.crs_part.specs.declared.units.Unit.{Unit}
 use Rattle.crs_part.specs.declared.units.Unit.TheVariants as any
 use Rattle.crs_part.specs.declared.units.UnitDefinition.{UnitDefinition}
 use Rattle.crs_export.specs.declared.height.Height.{Height}
-use Rattle.crs_export.specs.declared.markup.TheConstants.{HEIGHT, DEPTH}
 use Rattle.crs_export.specs.Names.{is_long}
 
 -- its name, that of its frame, its axis and its unit
@@ -54,8 +53,8 @@ length_of None None = None
 
 -- a letter is the abbreviation of an axis
 abbrev pub default_axis : Direction → List ℕ
-default_axis to.Down = DEPTH.now
-default_axis other = HEIGHT.now
+default_axis to.Down = codes "Depth"
+default_axis other = codes "Gravity-related height"
 
 abbrev pub axis_name : Axis → List ℕ
 axis_name axis = if is_long axis.name.bytes then axis.name.bytes else default_axis axis.direction

@@ -12,7 +12,6 @@ use Rattle.crs_export.specs.declared.verdict.Verdict.{Verdict}
 use Rattle.crs_export.specs.declared.verdict.Verdict.TheVariants.{Insert, Again, LeftOut}
 use Rattle.crs_export.specs.declared.table.Table.{Table}
 use Rattle.crs_export.specs.declared.table.Table.TheVariants.{Geographic2d, Geographic3d, Geocentric, OtherGeodetic, Projected}
-use Rattle.crs_export.specs.declared.markup.TheConstants.{OWNER}
 use Rattle.crs_export.specs.Boxes.{numeral}
 use Rattle.crs_export.specs.Heights.{HeightBytes, height_in, is_named}
 use Rattle.crs_export.specs.Names.{is_long}
@@ -117,7 +116,7 @@ insert_compound t =
     (a_text t.code.now ∷ a_text t.name.now ∷ own ∷ horizontal t.entry.now ∷ own ∷ a_text t.entry.now ∷ current ∷ [])
 
 abbrev pub both_statements : Title → Table → Single → HeightBytes → List Statement
-both_statements t table first h = insert_flat t.entry.now table first ∷ (height_statements OWNER.now t.entry.now t.entry.now h ++ insert_compound t ∷ [])
+both_statements t table first h = insert_flat t.entry.now table first ∷ (height_statements (codes "crsreg") t.entry.now t.entry.now h ++ insert_compound t ∷ [])
 
 abbrev pub with_height : Title → Table → Single → Option HeightBytes → List Statement
 with_height t table first None = []

@@ -1,5 +1,5 @@
 -- Statements that put reference systems into PROJ's tables.
-use Rattle.std.specs.Prelude.{ℕ, ◌++◌, Bool, not, ◌||◌, ◌&&◌, nat_lt, nat_eq, List, [], ◌∷◌, map, Option, Some, None, is_some, if◌then◌else◌}
+use Rattle.std.specs.Prelude.{ℕ, codes, ◌++◌, Bool, not, ◌||◌, ◌&&◌, nat_lt, nat_eq, List, [], ◌∷◌, map, Option, Some, None, is_some, if◌then◌else◌}
 use Rattle.std.specs.Cmp.Lexicographic.{pointwise}
 use Rattle.std.specs.List.{list_any}
 use Rattle.crs_export.specs.declared.filed.Filed.{Filed}
@@ -10,7 +10,7 @@ use Rattle.crs_export.specs.declared.table.Table.{Table}
 use Rattle.crs_export.specs.Places.{PlaceBytes, place_of, is_same_place}
 use Rattle.crs_export.specs.Names.{is_long, is_zero, is_some_text}
 use Rattle.crs_export.specs.Rows.{field, start_of, type_of}
-use Rattle.crs_export.specs.declared.markup.TheConstants.{SQL_START, SQL_END, COMMA, ROW_END, LEFT_OUT, OWNER}
+use Rattle.crs_export.specs.declared.markup.TheConstants.{SQL_START, SQL_END, COMMA, ROW_END, LEFT_OUT}
 
 -- ---- what the tables can hold
 
@@ -23,7 +23,7 @@ has_rows f = is_some f.table || is_some_text f.rows.items
 
 -- an authority that is not that of rows of entries, and a code
 abbrev pub has_key : EntryText → Bool
-has_key k = is_some_text k.authority.now && (not (is_same_text OWNER.now k.authority.now) && is_some_text k.code.now)
+has_key k = is_some_text k.authority.now && (not (is_same_text (codes "crsreg") k.authority.now) && is_some_text k.code.now)
 
 -- there is a U+0000 in it, where SQLite ends a text
 abbrev pub has_null : Filed → Bool

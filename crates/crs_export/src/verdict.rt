@@ -1,9 +1,8 @@
 //! Whether an entry is inserted into PROJ's tables.
 
-ghost use Rattle.std.specs.Prelude.{◌≡◌, ◌++◌, ◌∷◌, [], List, Some, IfOk};
+ghost use Rattle.std.specs.Prelude.{◌≡◌, ◌++◌, ◌∷◌, [], codes, List, Some, IfOk};
 ghost use Rattle.crs_export.specs.declared.filed.Filed.{Filed as OneFiled};
 ghost use Rattle.crs_export.specs.Held.{Holds};
-ghost use Rattle.crs_export.specs.declared.markup.TheConstants as markup;
 ghost use Rattle.crs_export.specs.Sql.{is_same_text, has_rows, has_key, has_null, fits, text_at, by_text, judged};
 
 use crate::filed::{EntryText, Filed};
@@ -24,7 +23,7 @@ pub enum Verdict {
 }
 
 fn is_own(authority: &[u8]) -> bool
-    ensures { result ≡ is_same_text markup.OWNER.now authority.now }
+    ensures { result ≡ is_same_text (codes "crsreg") authority.now }
 {
     OWNER == authority
 }

@@ -1,7 +1,7 @@
 -- A projected system whose central meridian, or a standard parallel, is further from its areas of use than its method reaches.
 use Rattle.std.specs.Prelude.{ℕ, nat_lt, Bool, true, false, not, ◌&&◌, ◌||◌, List, [], ◌∷◌, Option, Some, None, codes, if◌then◌else◌}
 use Rattle.std.specs.List.{find, list_all, concat}
-use Rattle.std.specs.Option.{is_some, option_or}
+use Rattle.std.specs.Option.{option_or, option_map, option_and_then}
 use Rattle.crs_number.specs.declared.decimals.Decimal.{Decimal}
 use Rattle.crs_number.specs.Canonical.{canonical}
 use Rattle.crs_part.specs.declared.units.UnitDefinition.{UnitDefinition}
@@ -11,10 +11,10 @@ use Rattle.crs_part.specs.declared.usages.Usage.{Usage}
 use Rattle.crs_part.specs.declared.conversions.Parameter.{Parameter}
 use Rattle.crs_part.specs.declared.crs.Projected.{Projected}
 use Rattle.crs_part.specs.declared.crs.Single.{Single}
-use Rattle.crs_part.specs.declared.crs.Single.TheVariants as single
 use Rattle.crs_exact.specs.Names.{has_part, is_named}
 use Rattle.crs_exact.specs.Said.{parameter_said}
-use Rattle.crs_meridians.specs.Meridian.{base_unit, angle_unit, is_packed}
+use Rattle.crs_exact.specs.Parts.{base_unit, own_or_base, projected_in}
+use Rattle.crs_exact.specs.Angles.{is_packed}
 use Rattle.crs_meridians.specs.Turn.{turn, in_degrees, in_unit_or_degrees, is_far_east, is_far_north}
 
 -- ---- what is compared
@@ -41,10 +41,10 @@ has_cone m = (has_part (codes "lambert conic") m && not (has_part (codes "(1sp)"
 abbrev pub place_of : Decimal → Option UnitDefinition → Option ℕ
 place_of v unit = if is_packed unit then None else in_unit_or_degrees v unit
 
--- where the prime meridian is; Greenwich without one
-abbrev pub prime_place : Option PrimeMeridian → Option ℕ
-prime_place None = Some turn
-prime_place (Some m) = place_of m.longitude (base_unit m.unit)
+-- where the prime meridian is, in its own unit or else that of its system; Greenwich without one
+abbrev pub prime_place : Option PrimeMeridian → Option UnitDefinition → Option ℕ
+prime_place None common = Some turn
+prime_place (Some m) common = place_of m.longitude (option_or (base_unit m.unit) common)
 
 -- ---- areas of use
 
@@ -86,28 +86,16 @@ first_box (usage ∷ usages) = option_or usage.bounding_box (first_box usages)
 abbrev pub is_meridian_away : Projected → ℕ → Parameter → Bool
 is_meridian_away crs degrees p =
     nat_lt 0 degrees && is_origin p.name.bytes
-    && all_far_east (place_of p.value (angle_unit p.unit crs.base.unit)) (prime_place crs.base.prime_meridian) degrees crs.usages
+    && all_far_east (place_of p.value (own_or_base p.unit crs.base.unit)) (prime_place crs.base.prime_meridian (base_unit crs.base.unit)) degrees crs.usages
 
 -- 35 degrees
 abbrev pub is_parallel_away : Projected → Parameter → Bool
 is_parallel_away crs p =
     has_cone crs.conversion.method.name.bytes && has_part (codes "parallel") p.name.bytes
-    && all_far_north (place_of p.value (angle_unit p.unit crs.base.unit)) 35 crs.usages
+    && all_far_north (place_of p.value (own_or_base p.unit crs.base.unit)) 35 crs.usages
 
 abbrev pub is_parameter_away : Projected → Parameter → Bool
 is_parameter_away crs p = is_meridian_away crs (reach_of crs.conversion.method.name.bytes) p || is_parallel_away crs p
-
--- the first such parameter of a system with an area of use
-abbrev pub away_parameter : Projected → Option Parameter
-away_parameter crs = if is_some (first_box crs.usages) then find (is_parameter_away crs) crs.conversion.parameters else None
-
-abbrev pub away_of : Single → Option Parameter
-away_of (single.Geodetic crs) = None
-away_of (single.Projected crs) = away_parameter crs
-away_of (single.Vertical crs) = None
-
-abbrev pub away : Single → Bool
-away crs = is_some (away_of crs)
 
 -- ---- what is said
 
@@ -124,13 +112,15 @@ box_said box =
     ∷ canonical box.east.coefficient box.east.exponent
     ∷ [])
 
-abbrev pub beside_box : Option Parameter → Option BoundingBox → List ℕ
-beside_box None box = []
-beside_box (Some p) None = []
-beside_box (Some p) (Some box) = parameter_said p (box_said box)
+abbrev away_said : BoundingBox → Parameter → List ℕ
+away_said box p = parameter_said p (box_said box)
 
--- the parameter beside the first area of use
-abbrev pub away_told : Single → List ℕ
-away_told (single.Geodetic crs) = []
-away_told (single.Projected crs) = beside_box (away_parameter crs) (first_box crs.usages)
-away_told (single.Vertical crs) = []
+-- the first such parameter beside the first area of use
+abbrev away_beside : Projected → BoundingBox → Option (List ℕ)
+away_beside crs box = option_map (away_said box) (find (is_parameter_away crs) crs.conversion.parameters)
+
+abbrev pub away_in : Projected → Option (List ℕ)
+away_in crs = option_and_then (away_beside crs) (first_box crs.usages)
+
+abbrev pub away : Single → Option (List ℕ)
+away crs = option_and_then away_in (projected_in crs)

@@ -1,45 +1,40 @@
 //! Central meridians and standard parallels that are far from the area of use.
 
-ghost use Rattle.std.specs.Prelude.{◌≡◌, ◌≤◌, ◌*◌, IfOk, IfSome};
+ghost use Rattle.std.specs.Prelude.{◌≡◌, ◌≤◌, ◌*◌, IfSome};
 ghost use Rattle.std.specs.List.{find, list_all};
 ghost use Rattle.std.specs.Option.{option_map};
 ghost use Rattle.crs_exact.specs.Said.{parameter_said};
-ghost use Rattle.crs_meridians.specs.Away.{is_origin, reach_of, has_cone, place_of, prime_place, far_from_arc, far_from_belt, usage_far_east, usage_far_north, all_far_east, all_far_north, first_box, is_meridian_away, is_parallel_away, is_parameter_away, away_parameter, away_of, away, box_said, beside_box, away_told};
+ghost use Rattle.crs_exact.specs.Said.{sentence};
+ghost use Rattle.crs_meridians.specs.Away.{is_origin, reach_of, has_cone, place_of, prime_place, far_from_arc, far_from_belt, usage_far_east, usage_far_north, all_far_east, all_far_north, first_box, is_meridian_away, is_parallel_away, is_parameter_away, box_said, away_in, away};
 
-use crate::meridian::{angle_unit, base_unit, is_packed};
 use crate::turn::{TURN, in_degrees, in_unit_or_degrees, is_far_east, is_far_north};
-use crs_exact::{has_part, is_named, joined, number, parameter_said};
+use crs_exact::{
+    END, Finding, Piece, base_unit, has_part, is_named, is_packed, own_or_base, projected_in,
+    unit_or,
+};
 use crs_number::Decimal;
 use crs_part::{BoundingBox, Parameter, PrimeMeridian, Projected, Single, UnitDefinition, Usage};
-use std::alloc::{AllocError, Global};
 
-/// Whether the central meridian of a projected system with areas of use is further from all of them than its method reaches: 5 degrees
-/// for Transverse Mercator and Cassini, 10 for Lambert with one parallel and oblique stereographic, 30 for other Lambert and Albers; or a
-/// standard parallel of Lambert or Albers is more than 35 degrees from all of them.
-pub fn breaks_away(crs: &Single) -> bool
-    ensures { result ≡ away crs.now }
+/// The first parameter of a projected system with areas of use that is further from all of them than its method reaches: a central
+/// meridian by 5 degrees for Transverse Mercator and Cassini, 10 for Lambert with one parallel and oblique stereographic, 30 for other
+/// Lambert and Albers; a standard parallel of Lambert or Albers by 35 degrees.
+pub fn odd_away(crs: &Single) -> Option<Finding<'_>>
+    ensures { option_map sentence result ≡ away crs.now }
 {
-    match away_of(crs) {
-        Some(_) => true,
-        None => false,
+    match projected_in(crs) {
+        Some(crs) => away_in(crs),
+        None => None,
     }
 }
 
-fn away_of(crs: &Single) -> Option<&Parameter>
-    ensures { option_map (λ p. p.now) result ≡ away_of crs.now }
+fn away_in(crs: &Projected) -> Option<Finding<'_>>
+    ensures { option_map sentence result ≡ away_in crs.now }
 {
-    match crs {
-        Single::Geodetic(_) => None,
-        Single::Projected(crs) => away_parameter(crs),
-        Single::Vertical(_) => None,
-    }
-}
-
-fn away_parameter(crs: &Projected) -> Option<&Parameter>
-    ensures { option_map (λ p. p.now) result ≡ away_parameter crs.now }
-{
-    match first_box(crs.usages.as_slice()) {
-        Some(_) => first_away(crs),
+    let Some(area) = first_box(crs.usages.as_slice()) else {
+        return None;
+    };
+    match first_away(crs) {
+        Some(parameter) => Some(beside(parameter, area)),
         None => None,
     }
 }
@@ -81,8 +76,11 @@ fn is_meridian_away(crs: &Projected, degrees: u32, parameter: &Parameter) -> boo
     0 < degrees
         && is_origin(parameter.name.as_bytes())
         && all_far_east(
-            place_of(parameter.value, angle_unit(&parameter.unit, &crs.base.unit)),
-            prime_place(&crs.base.prime_meridian),
+            place_of(
+                parameter.value,
+                own_or_base(&parameter.unit, &crs.base.unit),
+            ),
+            prime_place(&crs.base.prime_meridian, base_unit(&crs.base.unit)),
             degrees,
             crs.usages.as_slice(),
         )
@@ -94,7 +92,10 @@ fn is_parallel_away(crs: &Projected, cone: bool, parameter: &Parameter) -> bool
 {
     cone && has_part(parameter.name.as_bytes(), b"parallel")
         && all_far_north(
-            place_of(parameter.value, angle_unit(&parameter.unit, &crs.base.unit)),
+            place_of(
+                parameter.value,
+                own_or_base(&parameter.unit, &crs.base.unit),
+            ),
             35,
             crs.usages.as_slice(),
         )
@@ -151,12 +152,16 @@ fn place_of(value: Decimal, unit: Option<&UnitDefinition>) -> Option<u128>
     in_unit_or_degrees(value, unit)
 }
 
-fn prime_place(meridian: &Option<PrimeMeridian>) -> Option<u128>
-    ensures value { result ≡ prime_place meridian.now }
+// A prime meridian without a unit of its own has that of its system.
+fn prime_place(meridian: &Option<PrimeMeridian>, common: Option<&UnitDefinition>) -> Option<u128>
+    ensures value { result ≡ prime_place meridian.now (option_map (λ unit. unit.now) common.entry) }
     ensures small { IfSome result (λ n. n ≤ 2 * 62831853071795880000000000000000) }
 {
     match meridian {
-        Some(meridian) => place_of(meridian.longitude, base_unit(&meridian.unit)),
+        Some(meridian) => place_of(
+            meridian.longitude,
+            unit_or(base_unit(&meridian.unit), common),
+        ),
         None => Some(TURN),
     }
 }
@@ -269,12 +274,12 @@ fn far_from_belt(parallel: u128, degrees: u32, south: Option<u128>, north: Optio
 }
 
 // The first area of use that has a box.
-fn first_box(usages: &[Usage]) -> Option<BoundingBox>
-    ensures { result ≡ first_box usages.now }
+fn first_box(usages: &[Usage]) -> Option<&BoundingBox>
+    ensures { option_map (λ area. area.now) result ≡ first_box usages.now }
 {
     let mut rest = usages;
     while let Some((usage, others)) = rest.split_first() {
-        if let Some(found) = usage.bounding_box {
+        if let Some(found) = &usage.bounding_box {
             return Some(found);
         }
         rest = others;
@@ -282,64 +287,24 @@ fn first_box(usages: &[Usage]) -> Option<BoundingBox>
     None
 }
 
-/// The parameter of the system that is far from the area of use, and that area.
-pub fn tell_away(alloc: Global, crs: &Single) -> Result<Vec<u8>, AllocError>
-    ensures { IfOk result (λ text. text.items ≡ away_told crs.now) }
+fn beside<'a>(parameter: &'a Parameter, area: &'a BoundingBox) -> Finding<'a>
+    ensures { sentence result ≡ parameter_said parameter.now (box_said area.now) }
 {
-    match crs {
-        Single::Geodetic(_) => Ok(Vec::new(alloc)),
-        Single::Projected(crs) => beside_box(
-            alloc,
-            away_parameter(crs),
-            first_box(crs.usages.as_slice()),
-        ),
-        Single::Vertical(_) => Ok(Vec::new(alloc)),
-    }
-}
-
-fn beside_box(
-    alloc: Global,
-    parameter: Option<&Parameter>,
-    found: Option<BoundingBox>,
-) -> Result<Vec<u8>, AllocError>
-    ensures { IfOk result (λ text. text.items ≡ beside_box (option_map (λ p. p.now) parameter.entry) found) }
-{
-    match (parameter, found) {
-        (Some(parameter), Some(found)) => said_beside(alloc, parameter, found),
-        _ => Ok(Vec::new(alloc)),
-    }
-}
-
-fn said_beside(
-    alloc: Global,
-    parameter: &Parameter,
-    found: BoundingBox,
-) -> Result<Vec<u8>, AllocError>
-    ensures { IfOk result (λ text. text.items ≡ parameter_said parameter.now (box_said found)) }
-{
-    let area = box_said(alloc, found)?;
-    let text = parameter_said(alloc, parameter, &area)?;
-    Ok(text)
-}
-
-fn box_said(alloc: Global, found: BoundingBox) -> Result<Vec<u8>, AllocError>
-    ensures { IfOk result (λ text. text.items ≡ box_said found) }
-{
-    let south = number(alloc, found.south)?;
-    let west = number(alloc, found.west)?;
-    let north = number(alloc, found.north)?;
-    let east = number(alloc, found.east)?;
-    joined(
-        alloc,
-        &[
-            b"the area of use has south ",
-            &south,
-            b", west ",
-            &west,
-            b", north ",
-            &north,
-            b", east ",
-            &east,
+    Finding {
+        parameter: Some(parameter),
+        pieces: [
+            Piece::Text(b"the area of use has south "),
+            Piece::Number(&area.south),
+            Piece::Text(b", west "),
+            Piece::Number(&area.west),
+            Piece::Text(b", north "),
+            Piece::Number(&area.north),
+            Piece::Text(b", east "),
+            Piece::Number(&area.east),
+            END,
+            END,
+            END,
+            END,
         ],
-    )
+    }
 }

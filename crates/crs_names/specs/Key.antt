@@ -1,17 +1,14 @@
--- An identifier with an odd text, of an authority that is nearly a known one, or with a padded number.
-use Rattle.std.specs.Prelude.{ℕ, ◌==◌, nat_le, Bool, false, not, ◌&&◌, ◌||◌, List, [], ◌∷◌, length, Option, Some, None, codes, if◌then◌else◌}
+-- An identifier with an odd text, of an authority that is nearly a known one, or with a number that has a sign or leading zeros.
+use Rattle.std.specs.Prelude.{ℕ, ◌==◌, nat_le, Bool, false, not, ◌&&◌, ◌||◌, List, [], ◌∷◌, length, codes, if◌then◌else◌}
 use Rattle.std.specs.Char.{to_ascii_lowercase}
-use Rattle.std.specs.List.{concat, find, list_all}
-use Rattle.std.specs.Option.{is_some}
+use Rattle.std.specs.Int.{is_negative}
+use Rattle.std.specs.List.{concat, list_all}
 use Rattle.std.specs.Str.{bytes_eq}
 use Rattle.crs_part.specs.Words.{same_word}
 use Rattle.crs_part.specs.declared.identifiers.Ident.{Ident}
 use Rattle.crs_part.specs.declared.identifiers.NumberOrText.{NumberOrText}
 use Rattle.crs_part.specs.declared.identifiers.NumberOrText.TheVariants.{Number, Text}
-use Rattle.crs_part.specs.declared.crs.Single.{Single}
-use Rattle.crs_part.specs.declared.crs.Compound.{Compound}
 use Rattle.crs_value.specs.Keys.{text_of}
-use Rattle.crs_names.specs.Idents.{single_ids, compound_ids}
 use Rattle.crs_names.specs.Name.{is_text_odd}
 
 abbrev pub is_digit : ℕ → Bool
@@ -23,7 +20,7 @@ is_padded [] = false
 is_padded (b ∷ bs) = (b == 43 || b == 45 || b == 48) && not (length bs == 0) && list_all is_digit bs
 
 abbrev pub is_code_odd : NumberOrText → Bool
-is_code_odd (Number value) = false
+is_code_odd (Number value) = is_negative value.coefficient
 is_code_odd (Text text) = is_text_odd text.bytes || is_padded text.bytes
 
 -- apart from letter case
@@ -73,22 +70,10 @@ is_near_known a =
 abbrev pub is_id_odd : Ident → Bool
 is_id_odd id = is_text_odd id.authority.bytes || is_code_odd id.code || is_near_known id.authority.bytes
 
--- some identifier of a system is odd
-abbrev pub key : Single → Bool
-key crs = is_some (find is_id_odd (single_ids crs))
-
--- some identifier of a compound itself is
-abbrev pub whole_key : Compound → Bool
-whole_key crs = is_some (find is_id_odd (compound_ids crs))
-
 abbrev pub id_what : Ident → List ℕ
 id_what id =
     if is_near_known id.authority.bytes then codes "has an authority that is nearly a known one: EPSG, ESRI, IGNF, OGC, IAU_2015, NKG or PROJ"
     else codes "is empty in part, has odd blanks or control characters, or is a number with a sign or leading zeros"
 
-abbrev pub id_said : Ident → List ℕ → List ℕ
-id_said id what = concat (codes "the identifier \"" ∷ id.authority.bytes ∷ codes "\", \"" ∷ text_of id.code ∷ codes "\" " ∷ what ∷ [])
-
-abbrev pub id_told : Option Ident → List ℕ
-id_told None = []
-id_told (Some id) = id_said id (id_what id)
+abbrev pub id_said : Ident → List ℕ
+id_said id = concat (codes "the identifier \"" ∷ id.authority.bytes ∷ codes "\", \"" ∷ text_of id.code ∷ codes "\" " ∷ id_what id ∷ [])

@@ -1,4 +1,5 @@
-pub mod Names
-pub mod Idents
+pub mod Items
 pub mod Name
 pub mod Key
+pub mod Unit
+pub mod Odd

@@ -1,11 +1,7 @@
 -- A name that is empty, or has odd blanks or control characters.
-use Rattle.std.specs.Prelude.{ℕ, ◌==◌, nat_lt, Bool, true, ◌&&◌, ◌||◌, List, [], ◌∷◌, Option, Some, None, codes}
-use Rattle.std.specs.List.{concat, find}
-use Rattle.std.specs.Option.{is_some}
+use Rattle.std.specs.Prelude.{ℕ, ◌==◌, nat_lt, Bool, true, ◌&&◌, ◌||◌, List, [], ◌∷◌, codes}
+use Rattle.std.specs.List.{concat}
 use Rattle.crs_part.specs.declared.text.Text.{Text}
-use Rattle.crs_part.specs.declared.crs.Single.{Single}
-use Rattle.crs_part.specs.declared.crs.Compound.{Compound}
-use Rattle.crs_names.specs.Names.{single_names, compound_names}
 
 abbrev pub is_blank : ℕ → Bool
 is_blank b = b == 32
@@ -22,20 +18,5 @@ odd_after blank (b ∷ bs) = (is_control b || (blank && is_blank b)) || odd_afte
 abbrev pub is_text_odd : List ℕ → Bool
 is_text_odd text = odd_after true text
 
-abbrev pub is_name_odd : Text → Bool
-is_name_odd name = is_text_odd name.bytes
-
--- some name of a system is odd
-abbrev pub name : Single → Bool
-name crs = is_some (find is_name_odd (single_names crs))
-
--- some name of a compound itself is
-abbrev pub whole_name : Compound → Bool
-whole_name crs = is_some (find is_name_odd (compound_names crs))
-
 abbrev pub name_said : Text → List ℕ
 name_said name = concat (codes "the name \"" ∷ name.bytes ∷ codes "\" is empty, or has a blank at an end, two blanks in a row, or a control character" ∷ [])
-
-abbrev pub name_told : Option Text → List ℕ
-name_told None = []
-name_told (Some name) = name_said name

@@ -1,82 +1,42 @@
 //! Identifiers with odd blanks or control characters, of an authority that is nearly a known one, or with a padded number.
 
-ghost use Rattle.std.specs.Prelude.{◌≡◌, IfOk};
-ghost use Rattle.std.specs.List.{find, list_all};
+ghost use Rattle.std.specs.Prelude.{◌≡◌};
+ghost use Rattle.std.specs.List.{list_all};
 ghost use Rattle.std.specs.Str.{bytes_eq};
 ghost use Rattle.crs_value.specs.Keys.{text_of};
-ghost use Rattle.crs_names.specs.Idents.{single_ids, compound_ids};
-ghost use Rattle.crs_names.specs.Key.{is_digit, is_padded, is_code_odd, is_same_letter, is_swap, is_slip, near, is_known, is_near_known, is_id_odd, key, whole_key, id_what, id_said, id_told};
+ghost use Rattle.crs_exact.specs.Said.{sentence, piece_said};
+ghost use Rattle.crs_names.specs.Key.{is_digit, is_padded, is_code_odd, is_same_letter, is_swap, is_slip, near, is_known, is_near_known, is_id_odd, id_what, id_said};
 
-use crate::id_walk::HasIds;
 use crate::name::is_text_odd;
-use crs_exact::{joined, number};
-use crs_part::{Compound, Ident, NumberOrText, Single, same_word};
-use std::alloc::{AllocError, Global};
+use crs_exact::{END, Finding, Piece};
+use crs_part::{Ident, NumberOrText, same_word};
 
-/// Whether an identifier of the system or of a part has an odd text, an authority that is nearly a known one, or a code that is a
-/// text of a number with a sign or leading zeros.
-pub fn breaks_key(crs: &Single) -> bool
-    ensures { result ≡ key crs.now }
+/// The sentence of an identifier.
+pub(crate) fn id_said(id: &Ident) -> Finding<'_>
+    ensures { sentence result ≡ id_said id.now }
 {
-    match crs.odd_id() {
-        Some(_) => true,
-        None => false,
-    }
+    Finding::of_words([
+        Piece::Text(b"the identifier \""),
+        Piece::Text(id.authority.as_bytes()),
+        Piece::Text(b"\", \""),
+        code_said(&id.code),
+        Piece::Text(b"\" "),
+        Piece::Text(id_what(id)),
+        END,
+        END,
+        END,
+        END,
+        END,
+        END,
+    ])
 }
 
-/// Whether an identifier of a compound itself does, apart from those of its components.
-pub fn whole_breaks_key(crs: &Compound) -> bool
-    ensures { result ≡ whole_key crs.now }
-{
-    match crs.odd_id() {
-        Some(_) => true,
-        None => false,
-    }
-}
-
-/// The first such identifier of the system.
-pub fn tell_key(alloc: Global, crs: &Single) -> Result<Vec<u8>, AllocError>
-    ensures { IfOk result (λ text. text.items ≡ id_told (find is_id_odd (single_ids crs.now))) }
-{
-    match crs.odd_id() {
-        Some(id) => id_said(alloc, id, id_what(id)),
-        None => Ok(Vec::new(alloc)),
-    }
-}
-
-/// The first such identifier of a compound itself.
-pub fn whole_tells_key(alloc: Global, crs: &Compound) -> Result<Vec<u8>, AllocError>
-    ensures { IfOk result (λ text. text.items ≡ id_told (find is_id_odd (compound_ids crs.now))) }
-{
-    match crs.odd_id() {
-        Some(id) => id_said(alloc, id, id_what(id)),
-        None => Ok(Vec::new(alloc)),
-    }
-}
-
-fn id_said(alloc: Global, id: &Ident, what: &[u8]) -> Result<Vec<u8>, AllocError>
-    ensures { IfOk result (λ text. text.items ≡ id_said id.now what.now) }
-{
-    let code = code_said(alloc, &id.code)?;
-    joined(
-        alloc,
-        &[
-            b"the identifier \"",
-            id.authority.as_bytes(),
-            b"\", \"",
-            &code,
-            b"\" ",
-            what,
-        ],
-    )
-}
-
-fn code_said(alloc: Global, code: &NumberOrText) -> Result<Vec<u8>, AllocError>
-    ensures { IfOk result (λ text. text.items ≡ text_of code.now) }
+fn code_said(code: &NumberOrText) -> Piece<'_>
+    ensures { piece_said result ≡ text_of code.now }
 {
     match code {
-        NumberOrText::Number(value) => number(alloc, *value),
-        NumberOrText::Text(text) => Vec::from_slice(alloc, text.as_bytes()),
+        NumberOrText::Number(value) => Piece::Number(value),
+        NumberOrText::Text(text) => Piece::Text(text.as_bytes()),
     }
 }
 
@@ -102,7 +62,7 @@ fn is_code_odd(code: &NumberOrText) -> bool
     ensures { result ≡ is_code_odd code.now }
 {
     match code {
-        NumberOrText::Number(_) => false,
+        NumberOrText::Number(value) => value.coefficient() < 0,
         NumberOrText::Text(text) => is_text_odd(text.as_bytes()) || is_padded(text.as_bytes()),
     }
 }

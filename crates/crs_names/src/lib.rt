@@ -1,10 +1,13 @@
-//! Rules of sense about names and identifiers.
+//! Rules of sense about the names, the identifiers and the units of all parts of a reference system.
 #![tactic(auto)]
 
-mod id_walk;
+mod items;
 mod key;
 mod name;
-mod name_walk;
+mod odd;
+mod parts;
+mod unit;
+mod units;
 
-pub use key::{breaks_key, tell_key, whole_breaks_key, whole_tells_key};
-pub use name::{breaks_name, tell_name, whole_breaks_name, whole_tells_name};
+pub use items::{Found, HasItems, Seek};
+pub use odd::odd_item;

@@ -1,2 +1,12 @@
+pub mod Accuracy
+pub mod Axes
+pub mod AxisName
+pub mod Box
+pub mod Ellipsoid
+pub mod Figure
+pub mod Height
+pub mod Prime
+pub mod Swapped
+pub mod UnitName
 pub mod Rules
 pub mod Sentences

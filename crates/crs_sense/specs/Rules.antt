@@ -1,34 +1,38 @@
--- The rules, and whether a reference system breaks one.
-use Rattle.std.specs.Prelude.{ℕ, Bool, false, ◌||◌, List, [], ◌∷◌, codes}
+-- The rules, and what a reference system has that breaks one.
+use Rattle.std.specs.Prelude.{ℕ, Bool, List, [], ◌∷◌, Option, Some, None, codes}
+use Rattle.std.specs.List.{find}
+use Rattle.std.specs.Option.{option_map, option_or, is_some}
 use Rattle.crs_part.specs.declared.crs.Single.{Single}
 use Rattle.crs_part.specs.declared.crs.Compound.{Compound}
 use Rattle.crs_part.specs.declared.crs.CrsParts.{CrsParts}
 use Rattle.crs_part.specs.declared.crs.CrsParts.TheVariants as whole
-use Rattle.crs_sense.specs.declared.rule.Rule.{Rule}
-use Rattle.crs_sense.specs.declared.rule.Rule.TheVariants as the
-use Rattle.crs_axes.specs.Axes.{axes}
-use Rattle.crs_axes.specs.AxisName.{axis_name}
-use Rattle.crs_axes.specs.Box.{box_of, some_box_odd}
-use Rattle.crs_axes.specs.Height.{height}
-use Rattle.crs_axes.specs.UnitName.{unit_name}
+use Rattle.crs_exact.specs.Parts.{usages_of}
 use Rattle.crs_conversion.specs.Angle.{angle}
 use Rattle.crs_conversion.specs.FalseUnit.{false_unit}
+use Rattle.crs_conversion.specs.Operation.{operation}
 use Rattle.crs_conversion.specs.Packed.{packed}
 use Rattle.crs_conversion.specs.Parallels.{parallels}
 use Rattle.crs_conversion.specs.Quantity.{quantity}
+use Rattle.crs_conversion.specs.Radian.{radian}
 use Rattle.crs_conversion.specs.Scale.{scale}
-use Rattle.crs_ellipsoids.specs.Ellipsoid.{ellipsoid}
-use Rattle.crs_frame.specs.Accuracy.{accuracy}
-use Rattle.crs_frame.specs.Figure.{figure}
-use Rattle.crs_frame.specs.Prime.{prime}
 use Rattle.crs_meridians.specs.Away.{away}
 use Rattle.crs_meridians.specs.Meridian.{meridian}
-use Rattle.crs_methods.specs.Operation.{operation}
-use Rattle.crs_names.specs.Key.{key, whole_key}
-use Rattle.crs_names.specs.Name.{name, whole_name}
-use Rattle.crs_radian.specs.Radian.{radian}
-use Rattle.crs_units.specs.Unit.{unit, whole_unit}
-use Rattle.crs_zones.specs.Zone.{zone}
+use Rattle.crs_meridians.specs.Zone.{zone}
+use Rattle.crs_names.specs.declared.items.Seek.{Seek}
+use Rattle.crs_names.specs.declared.items.Seek.TheVariants as seek
+use Rattle.crs_names.specs.Items.{Item, single_items, compound_items}
+use Rattle.crs_names.specs.Odd.{is_odd, item_said}
+use Rattle.crs_sense.specs.declared.rule.Rule.{Rule}
+use Rattle.crs_sense.specs.declared.rule.Rule.TheVariants as the
+use Rattle.crs_sense.specs.Accuracy.{accuracy}
+use Rattle.crs_sense.specs.Axes.{axes}
+use Rattle.crs_sense.specs.AxisName.{axis_name}
+use Rattle.crs_sense.specs.Box.{boxes}
+use Rattle.crs_sense.specs.Ellipsoid.{ellipsoid}
+use Rattle.crs_sense.specs.Figure.{figure}
+use Rattle.crs_sense.specs.Height.{height}
+use Rattle.crs_sense.specs.Prime.{prime}
+use Rattle.crs_sense.specs.UnitName.{unit_name}
 
 -- the name that is printed
 abbrev pub rule_name : Rule → List ℕ
@@ -60,59 +64,70 @@ rule_name the.Zone = codes "zone"
 abbrev pub rules_listed : List Rule
 rules_listed = the.Accuracy ∷ the.Angle ∷ the.Away ∷ the.Axes ∷ the.AxisName ∷ the.Box ∷ the.Packed ∷ the.Ellipsoid ∷ the.FalseUnit ∷ the.Figure ∷ the.Height ∷ the.Key ∷ the.Meridian ∷ the.Name ∷ the.Operation ∷ the.Parallels ∷ the.Prime ∷ the.Quantity ∷ the.Radian ∷ the.Scale ∷ the.Unit ∷ the.UnitName ∷ the.Zone ∷ []
 
--- a system of one part breaks the rule
-abbrev pub breaks_single : Rule → Single → Bool
-breaks_single the.Accuracy crs = accuracy crs
-breaks_single the.Angle crs = angle crs
-breaks_single the.Away crs = away crs
-breaks_single the.Axes crs = axes crs
-breaks_single the.AxisName crs = axis_name crs
-breaks_single the.Box crs = box_of crs
-breaks_single the.Packed crs = packed crs
-breaks_single the.Ellipsoid crs = ellipsoid crs
-breaks_single the.FalseUnit crs = false_unit crs
-breaks_single the.Figure crs = figure crs
-breaks_single the.Height crs = height crs
-breaks_single the.Key crs = key crs
-breaks_single the.Meridian crs = meridian crs
-breaks_single the.Name crs = name crs
-breaks_single the.Operation crs = operation crs
-breaks_single the.Parallels crs = parallels crs
-breaks_single the.Prime crs = prime crs
-breaks_single the.Quantity crs = quantity crs
-breaks_single the.Radian crs = radian crs
-breaks_single the.Scale crs = scale crs
-breaks_single the.Unit crs = unit crs
-breaks_single the.UnitName crs = unit_name crs
-breaks_single the.Zone crs = zone crs
+-- the first odd one of these names, identifiers and units
+abbrev items_found : List Item → Seek → Option (List ℕ)
+items_found items s = option_map item_said (find (is_odd s) items)
 
--- a compound breaks it, apart from its components
-abbrev pub breaks_whole : Rule → Compound → Bool
-breaks_whole the.Accuracy crs = false
-breaks_whole the.Angle crs = false
-breaks_whole the.Away crs = false
-breaks_whole the.Axes crs = false
-breaks_whole the.AxisName crs = false
-breaks_whole the.Box crs = some_box_odd crs.usages
-breaks_whole the.Packed crs = false
-breaks_whole the.Ellipsoid crs = false
-breaks_whole the.FalseUnit crs = false
-breaks_whole the.Figure crs = false
-breaks_whole the.Height crs = false
-breaks_whole the.Key crs = whole_key crs
-breaks_whole the.Meridian crs = false
-breaks_whole the.Name crs = whole_name crs
-breaks_whole the.Operation crs = false
-breaks_whole the.Parallels crs = false
-breaks_whole the.Prime crs = false
-breaks_whole the.Quantity crs = false
-breaks_whole the.Radian crs = false
-breaks_whole the.Scale crs = false
-breaks_whole the.Unit crs = whole_unit crs
-breaks_whole the.UnitName crs = false
-breaks_whole the.Zone crs = false
+-- the sentence about what a system of one part has that breaks the rule
+abbrev pub found_in : Rule → Single → Option (List ℕ)
+found_in the.Accuracy crs = accuracy crs
+found_in the.Angle crs = angle crs
+found_in the.Away crs = away crs
+found_in the.Axes crs = axes crs
+found_in the.AxisName crs = axis_name crs
+found_in the.Box crs = boxes (usages_of crs)
+found_in the.Packed crs = packed crs
+found_in the.Ellipsoid crs = ellipsoid crs
+found_in the.FalseUnit crs = false_unit crs
+found_in the.Figure crs = figure crs
+found_in the.Height crs = height crs
+found_in the.Key crs = items_found (single_items crs) seek.Ids
+found_in the.Meridian crs = meridian crs
+found_in the.Name crs = items_found (single_items crs) seek.Names
+found_in the.Operation crs = operation crs
+found_in the.Parallels crs = parallels crs
+found_in the.Prime crs = prime crs
+found_in the.Quantity crs = quantity crs
+found_in the.Radian crs = radian crs
+found_in the.Scale crs = scale crs
+found_in the.Unit crs = items_found (single_items crs) seek.Units
+found_in the.UnitName crs = unit_name crs
+found_in the.Zone crs = zone crs
 
--- a reference system breaks it: one of its parts does
+-- about what a compound has, apart from its components
+abbrev pub found_in_whole : Rule → Compound → Option (List ℕ)
+found_in_whole the.Accuracy crs = None
+found_in_whole the.Angle crs = None
+found_in_whole the.Away crs = None
+found_in_whole the.Axes crs = None
+found_in_whole the.AxisName crs = None
+found_in_whole the.Box crs = boxes crs.usages
+found_in_whole the.Packed crs = None
+found_in_whole the.Ellipsoid crs = None
+found_in_whole the.FalseUnit crs = None
+found_in_whole the.Figure crs = None
+found_in_whole the.Height crs = None
+found_in_whole the.Key crs = items_found (compound_items crs) seek.Ids
+found_in_whole the.Meridian crs = None
+found_in_whole the.Name crs = items_found (compound_items crs) seek.Names
+found_in_whole the.Operation crs = None
+found_in_whole the.Parallels crs = None
+found_in_whole the.Prime crs = None
+found_in_whole the.Quantity crs = None
+found_in_whole the.Radian crs = None
+found_in_whole the.Scale crs = None
+found_in_whole the.Unit crs = items_found (compound_items crs) seek.Units
+found_in_whole the.UnitName crs = None
+found_in_whole the.Zone crs = None
+
+-- of the first component that has it, or else of the whole
+abbrev pub found_in_both : Rule → Compound → Option (List ℕ)
+found_in_both rule crs = option_or (found_in rule crs.first) (option_or (found_in rule crs.second) (found_in_whole rule crs))
+
+abbrev pub found : Rule → CrsParts → Option (List ℕ)
+found rule (whole.Single crs) = found_in rule crs
+found rule (whole.Compound crs) = found_in_both rule crs
+
+-- a reference system breaks a rule: there is something
 abbrev pub breaks : Rule → CrsParts → Bool
-breaks rule (whole.Single crs) = breaks_single rule crs
-breaks rule (whole.Compound crs) = breaks_single rule crs.first || breaks_single rule crs.second || breaks_whole rule crs
+breaks rule crs = is_some (found rule crs)

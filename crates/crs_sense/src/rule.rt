@@ -1,25 +1,31 @@
 //! The rules, and whether a reference system breaks one.
 
-ghost use Rattle.std.specs.Prelude.{◌≡◌, ◌||◌, map};
+ghost use Rattle.std.specs.Prelude.{◌≡◌, map, IfOk};
 ghost use Rattle.std.specs.Char.{to_ascii_lowercase};
+ghost use Rattle.std.specs.Option.{option_map};
 ghost use Rattle.crs_part.specs.Words.{first_word};
-ghost use Rattle.crs_sense.specs.Rules.{rule_name, rules_listed, breaks_single, breaks_whole, breaks};
+ghost use Rattle.crs_exact.specs.Said.{sentence};
+ghost use Rattle.crs_sense.specs.Rules.{rule_name, rules_listed, found_in, found_in_whole, found_in_both, found, breaks};
+ghost use Rattle.crs_sense.specs.Sentences.{sentence as sentence_of};
 
-use crs_axes::{
-    breaks_axes, breaks_axis_name, breaks_box, breaks_height, breaks_unit_name, some_box_odd,
-};
+use crate::accuracy::odd_accuracy;
+use crate::axes::odd_axes;
+use crate::axis_name::odd_axis_name;
+use crate::boxes::odd_boxes;
+use crate::ellipsoid::odd_ellipsoid;
+use crate::figure::odd_figure;
+use crate::height::odd_height;
+use crate::prime::odd_prime;
+use crate::unit_name::odd_unit_name;
 use crs_conversion::{
-    breaks_angle, breaks_false_unit, breaks_packed, breaks_parallels, breaks_quantity, breaks_scale,
+    odd_angle, odd_false_unit, odd_operation, odd_packed, odd_parallels, odd_quantity, odd_radian,
+    odd_scale,
 };
-use crs_ellipsoids::breaks_ellipsoid;
-use crs_frame::{breaks_accuracy, breaks_figure, breaks_prime};
-use crs_meridians::{breaks_away, breaks_meridian};
-use crs_methods::breaks_operation;
-use crs_names::{breaks_key, breaks_name, whole_breaks_key, whole_breaks_name};
+use crs_exact::{Finding, usages_of};
+use crs_meridians::{odd_away, odd_meridian, odd_zone};
+use crs_names::{Seek, odd_item};
 use crs_part::{Compound, CrsParts, Single, Word, first_of};
-use crs_radian::breaks_radian;
-use crs_units::{breaks_unit, whole_breaks_unit};
-use crs_zones::breaks_zone;
+use std::alloc::{AllocError, Global};
 
 /// What an expert would ask about, one rule each.
 #[derive(Clone, Copy, Debug, PartialEq, Eq)]
@@ -146,63 +152,89 @@ impl Rule {
         first_of(&RULES, name)
     }
 
+    /// What a reference system has that breaks the rule: of a compound, in the first component that has it, or else in the whole.
+    pub fn finding(self, crs: &CrsParts) -> Option<Finding<'_>>
+        ensures { option_map sentence result ≡ found self crs.now }
+    {
+        match crs {
+            CrsParts::Single(crs) => self.found_in(crs),
+            CrsParts::Compound(crs) => self.found_in_both(crs.get()),
+        }
+    }
+
     /// Whether the reference system breaks the rule, in one of its parts.
     pub fn breaks(self, crs: &CrsParts) -> bool
         ensures { result ≡ breaks self crs.now }
     {
-        match crs {
-            CrsParts::Single(crs) => self.breaks_single(crs),
-            CrsParts::Compound(crs) => self.breaks_compound(crs.get()),
+        match self.finding(crs) {
+            Some(_) => true,
+            None => false,
         }
     }
 
-    fn breaks_compound(self, crs: &Compound) -> bool
-        ensures { result ≡ (breaks_single self crs.now.first || breaks_single self crs.now.second || breaks_whole self crs.now) }
+    /// What is odd about a reference system that breaks the rule: the value that was found, and what would be expected.
+    pub fn sentence(self, alloc: Global, crs: &CrsParts) -> Result<Vec<u8>, AllocError>
+        ensures { IfOk result (λ text. text.items ≡ sentence_of self crs.now) }
     {
-        self.breaks_single(&crs.first) || self.breaks_single(&crs.second) || self.breaks_whole(crs)
-    }
-
-    // Whether a system of one part does.
-    pub(crate) fn breaks_single(self, crs: &Single) -> bool
-        ensures { result ≡ breaks_single self crs.now }
-    {
-        match self {
-            Rule::Accuracy => breaks_accuracy(crs),
-            Rule::Angle => breaks_angle(crs),
-            Rule::Away => breaks_away(crs),
-            Rule::Axes => breaks_axes(crs),
-            Rule::AxisName => breaks_axis_name(crs),
-            Rule::Box => breaks_box(crs),
-            Rule::Packed => breaks_packed(crs),
-            Rule::Ellipsoid => breaks_ellipsoid(crs),
-            Rule::FalseUnit => breaks_false_unit(crs),
-            Rule::Figure => breaks_figure(crs),
-            Rule::Height => breaks_height(crs),
-            Rule::Key => breaks_key(crs),
-            Rule::Meridian => breaks_meridian(crs),
-            Rule::Name => breaks_name(crs),
-            Rule::Operation => breaks_operation(crs),
-            Rule::Parallels => breaks_parallels(crs),
-            Rule::Prime => breaks_prime(crs),
-            Rule::Quantity => breaks_quantity(crs),
-            Rule::Radian => breaks_radian(crs),
-            Rule::Scale => breaks_scale(crs),
-            Rule::Unit => breaks_unit(crs),
-            Rule::UnitName => breaks_unit_name(crs),
-            Rule::Zone => breaks_zone(crs),
+        match self.finding(crs) {
+            Some(found) => found.said(alloc),
+            None => Ok(Vec::new(alloc)),
         }
     }
 
-    // Whether a compound does, apart from its components.
-    fn breaks_whole(self, crs: &Compound) -> bool
-        ensures { result ≡ breaks_whole self crs.now }
+    fn found_in_both(self, crs: &Compound) -> Option<Finding<'_>>
+        ensures { option_map sentence result ≡ found_in_both self crs.now }
+    {
+        if let Some(found) = self.found_in(&crs.first) {
+            return Some(found);
+        }
+        if let Some(found) = self.found_in(&crs.second) {
+            return Some(found);
+        }
+        self.found_in_whole(crs)
+    }
+
+    // In a system of one part.
+    fn found_in(self, crs: &Single) -> Option<Finding<'_>>
+        ensures { option_map sentence result ≡ found_in self crs.now }
     {
         match self {
-            Rule::Box => some_box_odd(crs.usages.as_slice()),
-            Rule::Key => whole_breaks_key(crs),
-            Rule::Name => whole_breaks_name(crs),
-            Rule::Unit => whole_breaks_unit(crs),
-            _ => false,
+            Rule::Accuracy => odd_accuracy(crs),
+            Rule::Angle => odd_angle(crs),
+            Rule::Away => odd_away(crs),
+            Rule::Axes => odd_axes(crs),
+            Rule::AxisName => odd_axis_name(crs),
+            Rule::Box => odd_boxes(usages_of(crs)),
+            Rule::Packed => odd_packed(crs),
+            Rule::Ellipsoid => odd_ellipsoid(crs),
+            Rule::FalseUnit => odd_false_unit(crs),
+            Rule::Figure => odd_figure(crs),
+            Rule::Height => odd_height(crs),
+            Rule::Key => odd_item(crs, Seek::Ids),
+            Rule::Meridian => odd_meridian(crs),
+            Rule::Name => odd_item(crs, Seek::Names),
+            Rule::Operation => odd_operation(crs),
+            Rule::Parallels => odd_parallels(crs),
+            Rule::Prime => odd_prime(crs),
+            Rule::Quantity => odd_quantity(crs),
+            Rule::Radian => odd_radian(crs),
+            Rule::Scale => odd_scale(crs),
+            Rule::Unit => odd_item(crs, Seek::Units),
+            Rule::UnitName => odd_unit_name(crs),
+            Rule::Zone => odd_zone(crs),
+        }
+    }
+
+    // In a compound, apart from its components.
+    fn found_in_whole(self, crs: &Compound) -> Option<Finding<'_>>
+        ensures { option_map sentence result ≡ found_in_whole self crs.now }
+    {
+        match self {
+            Rule::Box => odd_boxes(crs.usages.as_slice()),
+            Rule::Key => odd_item(crs, Seek::Ids),
+            Rule::Name => odd_item(crs, Seek::Names),
+            Rule::Unit => odd_item(crs, Seek::Units),
+            _ => None,
         }
     }
 }

@@ -9,6 +9,5 @@ mod texts;
 
 pub use entered::entered_text;
 pub use lint::{run_lint, run_lint_kept};
-pub use reg_lint::{ANY_RULES, AnyRule, KeptSubject};
 pub use rules::usual_of;
 pub use texts::{TextsFault, read_texts};

@@ -1,8 +1,6 @@
 //! The answer of a call.
 
-use byte_system::{
-    Failed, FileReadFault, FolderSyncFault, Mode, NewFileFault, RenameFault, System, There,
-};
+use byte_system::{Failed, FileReadFault, FolderSyncFault, Mode, NewFileFault, System, There};
 use std::fmt;
 
 /// The answer of a call.
@@ -45,15 +43,14 @@ pub fn answer_to<S: System>(system: &mut S, line: &str) -> Answer {
     match call {
         "make" => made(system, first),
         "look" => there(system.look(first.as_bytes())),
-        "alike" => is(system.make_alike(file(first), second.as_bytes())),
+        "alike" => done(system.make_alike(file(first), second.as_bytes())),
         "open" => number(system.open(first.as_bytes())),
         "lock" => is(system.lock(file(first))),
         "named" => is(system.is_named(first.as_bytes(), file(second))),
         "write" => Answer::Number(system.write(file(first), second.as_bytes())),
-        "empty" => done(system.truncate(file(first))),
         "sync" => done(system.sync(file(first))),
         "has" => had(system.has(first.as_bytes(), second.as_bytes())),
-        "rename" => renamed(system.rename(first.as_bytes(), second.as_bytes())),
+        "rename" => done(system.rename(first.as_bytes(), second.as_bytes())),
         "unlink" => done(system.unlink(first.as_bytes())),
         "folder" => synced(system.sync_folder(first.as_bytes())),
         _ => Answer::NoCall,
@@ -69,7 +66,6 @@ fn made<S: System>(system: &mut S, name: &str) -> Answer {
     match system.make(name.as_bytes(), Mode::Usual) {
         Ok(file) => Answer::Number(file),
         Err(NewFileFault::Exists) => Answer::Exists,
-        Err(NewFileFault::Forbidden) => Answer::Failed,
         Err(NewFileFault::NotMade) => Answer::Failed,
     }
 }
@@ -84,13 +80,6 @@ fn there(told: Result<There, Failed>) -> Answer {
 fn had(told: Result<bool, FileReadFault>) -> Answer {
     match told {
         Ok(is) => Answer::Is(is),
-        Err(_) => Answer::Failed,
-    }
-}
-
-fn renamed(told: Result<(), RenameFault>) -> Answer {
-    match told {
-        Ok(()) => Answer::Done,
         Err(_) => Answer::Failed,
     }
 }

@@ -2,9 +2,9 @@
 //!
 //! - `look NAME`: `nothing`, `sole`, `shared`, `other` or `failed`
 //! - `make NAME`, `open NAME`: the number of the file; `exists` or `failed`
-//! - `lock FILE`, `named NAME FILE`, `has NAME TEXT`, `alike FILE NAME`: `yes`, `no` or `failed`
+//! - `lock FILE`, `named NAME FILE`, `has NAME TEXT`: `yes`, `no` or `failed`
 //! - `write FILE TEXT`: how many bytes were written
-//! - `empty FILE`, `sync FILE`, `rename FROM TO`, `unlink NAME`, `folder NAME`: `done` or `failed`
+//! - `sync FILE`, `alike FILE NAME`, `rename FROM TO`, `unlink NAME`, `folder NAME`: `done` or `failed`
 #![tactic(auto)]
 
 mod answer;

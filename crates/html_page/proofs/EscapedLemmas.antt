@@ -4,7 +4,7 @@ use Rattle.std.proofs.lemmas.Bool.Decides.{Decides-eqb}
 use Rattle.html_page.specs.Escaped.{escaped, unescaped_after, is_inert}
 
 -- the bytes that a byte is escaped to, by the results of the tests on it
-abbrev picked : ℕ → Bool → Bool → Bool → Bool → Bool → List ℕ
+abbrev pub picked : ℕ → Bool → Bool → Bool → Bool → Bool → List ℕ
 picked b t u v w x =
     if t then codes "&amp;" else (if u then codes "&lt;" else (if v then codes "&gt;" else (if w then codes "&#34;" else (if x then codes "&#39;" else b ∷ []))))
 

@@ -4,8 +4,9 @@ mod HiddenLemmas
 mod CharacterLemmas
 pub mod PlaceLemmas
 pub mod JoinLemmas
-pub mod ShortLemmas
 pub mod PageLemmas
 pub mod WordLemmas
 mod UnmarkedLemmas
 pub mod TextLemmas
+mod ReadLemmas
+pub mod SaidLemmas

@@ -7,8 +7,7 @@ use Rattle.html_page.specs.Pieces.{Piece, Markup, Text, Lines, Short, Attribute,
 use Rattle.html_page.specs.Places.{Context, Content, Name, Tag, Equals, Quoted, Raw, Expects, Lost, may_hold, may_draw, step, after, tag_byte, tags_from, past, past_all}
 use Rattle.html_page.specs.declared.marks.Feeds.TheVariants.{Marked, Kept}
 use Rattle.html_page.specs.Marks.{marked}
-use Rattle.html_page.specs.Short.{first_characters, short}
-use Rattle.html_page.specs.declared.short.TheConstants.{MOST, MORE}
+use Rattle.text_hidden.specs.Short.{shortened}
 use Rattle.html_page.proofs.EscapedLemmas.{inert}
 
 after-append : (p : Context) (xs ys : List ℕ) → after p (xs ++ ys) ≡ after (after p xs) ys
@@ -30,7 +29,7 @@ neither false true w x e = cc
 neither false false true x e = cc
 neither false false false x e = (refl, refl)
 
-inert_here : (b : ℕ) (rest : List ℕ) (t : Bool) → (b == 38) ≡ t → (if t then is_some (reference rest) else not ((b == 60) || ((b == 62) || ((b == 34) || (b == 39))))) ≡ true
+pub inert_here : (b : ℕ) (rest : List ℕ) (t : Bool) → (b == 38) ≡ t → (if t then is_some (reference rest) else not ((b == 60) || ((b == 62) || ((b == 34) || (b == 39))))) ≡ true
     → ((b == 60) ≡ false) × ((b == 34) ≡ false)
 inert_here b rest true t e = let is = (Decides-eqb b 38).0 t in (ap (λ c. c == 60) is, ap (λ c. c == 34) is)
 inert_here b rest false t e = neither _ _ _ _ e
@@ -76,14 +75,14 @@ stays-append {p = p} {xs = xs} {ys = ys} one two = record {
   no_tag = tags-append p xs ys ∙ (λ j. one.no_tag j ++ tags_from (one.place j) ys) ∙ two.no_tag;
 }
 
-more_stays : (b : Bool) → Stays Content (if b then MORE.now else [])
+more_stays : (b : Bool) → Stays Content (if b then 226 ∷ 128 ∷ 166 ∷ [] else [])
 more_stays true = record { place = refl; no_tag = refl }
 more_stays false = record { place = refl; no_tag = refl }
 
 short_passes : (text : List ℕ) (there : Context) → Some Content ≡ Some there → Passes Content there (Short text)
 unfolding bytes_of
 short_passes text there e =
-    let first = first_characters MOST text in
+    let first = shortened text in
     let stays = stays-append (in_content (escaped (marked Marked first)) (inert (marked Marked first))) (more_stays (nat_lt (length first) (length text))) in
     record { place = stays.place ∙ cc; blank_place = cc; tags = stays.no_tag }
 

@@ -8,3 +8,5 @@ pub mod Shape
 pub mod Templates
 pub mod Words
 pub mod Texts
+pub mod Read
+pub mod Said

@@ -54,9 +54,9 @@ named (c ∷ name) b = if is_letter b then Name (c ∷ (name ++ b ∷ [])) else 
 abbrev pub is_blank : ℕ → Bool
 is_blank b = (b == 32) || (b == 10)
 
--- a quotation mark of either kind, or `<`
+-- a quotation mark of either kind, `<`, `/` or a control character
 abbrev pub is_stray : ℕ → Bool
-is_stray b = (b == 34) || ((b == 39) || (b == 60))
+is_stray b = nat_le b 31 || ((b == 34) || ((b == 39) || ((b == 60) || (b == 47))))
 
 -- the context after a byte
 abbrev pub step : Context → ℕ → Context

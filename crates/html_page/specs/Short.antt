@@ -1,20 +1,10 @@
 -- Texts of which at most 200 characters are shown.
-use Rattle.std.specs.Prelude.{ℕ, ◌-◌, ◌||◌, nat_lt, List, [], ◌∷◌, ◌++◌, length, if◌then◌else◌}
+use Rattle.std.specs.Prelude.{ℕ, List, ◌++◌}
+use Rattle.text_hidden.specs.Short.{shortened, ellipsis_of}
 use Rattle.html_page.specs.declared.marks.Feeds.TheVariants.{Marked}
-use Rattle.html_page.specs.declared.short.TheConstants.{MOST, MORE}
 use Rattle.html_page.specs.Escaped.{escaped}
 use Rattle.html_page.specs.Marks.{marked}
 
--- 1 for a byte at which a character begins; the bytes 128 to 191 continue one
-abbrev pub starts : ℕ → ℕ
-starts b = if nat_lt b 128 || nat_lt 191 b then 1 else 0
-
--- the first characters of a text, at most so many
-abbrev pub first_characters : ℕ → List ℕ → List ℕ
-first_characters n [] = []
-first_characters n (b ∷ bs) = if nat_lt n (starts b) then [] else b ∷ first_characters (n - starts b) bs
-
 -- the first 200 characters, and `…` if the text has more
 abbrev pub short : List ℕ → List ℕ
-short text =
-    escaped (marked Marked (first_characters MOST text)) ++ (if nat_lt (length (first_characters MOST text)) (length text) then MORE.now else [])
+short text = escaped (marked Marked (shortened text)) ++ ellipsis_of text

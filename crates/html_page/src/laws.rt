@@ -9,13 +9,15 @@ ghost use Rattle.html_page.specs.Escaped.{escaped, unescaped, is_inert};
 ghost use Rattle.html_page.specs.Marks.{is_kept, marked, has_none};
 ghost use Rattle.html_page.specs.Pieces.{Piece, html, blank};
 ghost use Rattle.html_page.specs.Places.{Context, Content, tags, past_all, begins_no_tag};
+ghost use Rattle.html_page.specs.Read.{read_of};
+ghost use Rattle.html_page.specs.Said.{said};
 ghost use Rattle.html_page.specs.declared.script.TheConstants.{SCRIPT};
 ghost use Rattle.html_page.specs.declared.style.TheConstants.{STYLE};
 ghost use Rattle.html_page.specs.Shown.{Word, Shown};
 ghost use Rattle.html_page.specs.Shape.{shape};
 ghost use Rattle.html_page.specs.Templates.{page};
 ghost use Rattle.html_page.specs.Texts.{texts, shown_texts};
-ghost use Rattle.html_page.specs.Words.{compared, unmarked};
+ghost use Rattle.html_page.specs.Words.{compared, joined, unmarked};
 
 /// An escaped text has no `<`, `>` or quotation mark, and `&` only in references; a browser reads it as the text.
 pub fn texts_stay_texts()
@@ -52,6 +54,12 @@ pub fn no_text_leaves_its_place()
 /// which its questions follow.
 pub fn texts_are_in_order()
     ensures { (named : List ℕ → List ℕ) (s : Shown) → texts (page named s) ≡ shown_texts s }
+{}
+
+/// What is read of a page, between its tags and in the elements that are shown, is what its content says, in words that the definition
+/// writes out: of each row the key, the name, the latitudes and longitudes, the text, the history and the word for the status.
+pub fn all_is_said()
+    ensures { (named : List ℕ → List ℕ) (s : Shown) → read_of (html (page named s)) ≡ joined (said named s) }
 {}
 
 /// The style and the script have no `<`, so that no tag begins in them.

@@ -1,52 +1,17 @@
 //! Texts of which at most 200 characters are shown.
 
 ghost use Rattle.std.specs.Prelude.{◌≡◌, ◌++◌, OnOk};
-ghost use Rattle.html_page.specs.Short.{starts, first_characters, short};
+ghost use Rattle.html_page.specs.Short.{short};
 
 use crate::marks::{Feeds, push_marked};
 use std::alloc::AllocError;
-
-/// The most characters of a text that only points at something.
-const MOST: usize = 200;
-
-/// What stands in the place of all others.
-const MORE: &[u8] = b"\xe2\x80\xa6";
-
-// 1 for a byte at which a character begins, else 0.
-fn starts(byte: u8) -> usize
-    ensures { result ≡ starts byte }
-{
-    if byte < 128 || 191 < byte {
-        return 1;
-    }
-    0
-}
-
-// The first characters of a text.
-fn first_characters(text: &[u8]) -> &[u8]
-    ensures { result.now ≡ first_characters MOST text.now }
-{
-    let mut left = MOST;
-    let mut at = 0;
-    while at < text.len() {
-        let start = starts(text[at]);
-        if left < start {
-            return &text[..at];
-        }
-        left -= start;
-        at += 1;
-    }
-    text
-}
+use text_hidden::{push_ellipsis, shortened};
 
 /// Appends the first 200 characters of a text, with marks, and escaped; and `…` if there are more.
 pub fn push_short(page: &mut Vec<u8>, text: &[u8]) -> Result<(), AllocError>
     ensures { OnOk result (page.new.items ≡ page.old.items ++ short text.now) }
 {
-    let first = first_characters(text);
-    push_marked(page, Feeds::Marked, first)?;
-    if first.len() < text.len() {
-        page.extend_from_slice(MORE)?;
-    }
+    push_marked(page, Feeds::Marked, shortened(text))?;
+    push_ellipsis(page, text)?;
     Ok(())
 }

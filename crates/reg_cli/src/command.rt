@@ -5,16 +5,16 @@ use crate::shells::completions;
 use crate::telling::StandardError;
 use clap::error::ErrorKind;
 use clap::{ArgMatches, Error};
-use cli_exchange::faults::{CommandFiles, print_lines};
+use cli_change::{misnamed, office, retire, supersede};
 use cli_exchange::{downgrade, merge, new, piece, seen, shelf, take, unshelf};
-use cli_import::changes::{misnamed, office, retire, supersede};
+use cli_faults::{CommandFiles, print_lines};
 use cli_import::{enter, import, settle};
-use cli_look::desk::CliFault;
 use cli_look::handing::{export, graph, ops, page, show, wkt};
 use cli_look::{check, compare, diff, find, lint, log, offices, report, status as figures, texts};
 use cli_open::ending::{NotDone, Outcome, report as told, report_answer as told_plainly};
 use cli_open::{MISUSE, complain, explains, failed, is_table, names, print};
 use cli_words::{CommandName, command_line, overview};
+use reg_engine::{CliFault, OutFault};
 use std::alloc::AllocError;
 use std::{env, io};
 
@@ -159,8 +159,7 @@ fn perform(
             return Some(told(to, outcome));
         }
     }
-    if let Some(line) = overwritten(rt, name, inner) {
-        let outcome: Outcome<CliFault> = Err(NotDone::Misuse(line));
+    if let Some(outcome) = destructive(rt, name, inner) {
         return Some(told(to, outcome));
     }
     let status = match name {
@@ -205,5 +204,18 @@ fn mistaken(rt: &HostRuntime, inner: &ArgMatches<'_>) -> Option<Outcome<CliFault
         Ok(None) => None,
         Ok(Some(line)) => Some(Err(NotDone::Misuse(line))),
         Err(fault) => Some(Err(NotDone::Fault(fault))),
+    }
+}
+
+// How a command ends that is not run, since it would destroy what OUT is, or since nobody can tell what that is.
+fn destructive(
+    rt: &HostRuntime,
+    name: CommandName,
+    inner: &ArgMatches<'_>,
+) -> Option<Outcome<CliFault>> {
+    match overwritten(rt, name, inner) {
+        Ok(None) => None,
+        Ok(Some(line)) => Some(Err(NotDone::Misuse(line))),
+        Err(place) => Some(Err(NotDone::Fault(CliFault::Out(OutFault::ReadFailed(place))))),
     }
 }

@@ -1,7 +1,7 @@
 //! The environment variables that give defaults.
-use cli_look::desk::CliFault;
 use cli_open::{MISUSE, complain, failed};
 use cli_words::Defaults;
+use reg_engine::CliFault;
 use std::env::{self, VarError};
 use std::io::IsTerminal;
 

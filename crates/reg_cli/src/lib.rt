@@ -8,10 +8,4 @@ mod said;
 mod shells;
 mod telling;
 
-pub use cli_look::desk::{
-    CliFault, Form, InputFault, OutFault, Refusal, ShelfProblem, run_check, run_enter,
-    run_enter_on, run_export, run_merge, run_merge_on, run_new, run_ops, run_piece, run_report,
-    run_retire, run_retire_on, run_seen, run_shelf, run_show, run_supersede, run_supersede_on,
-    run_unshelf, run_wkt,
-};
 pub use command::{answer, run};

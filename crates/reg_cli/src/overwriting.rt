@@ -1,6 +1,7 @@
 //! Outputs that a command would destroy: an office file, or a shelf, in the place of the register that it writes.
 use clap::ArgMatches;
-use cli_exchange::faults::FileHead;
+use cli_exchange::shelf_size;
+use cli_faults::{FileHead, Spoiled};
 use cli_open::word;
 use cli_words::{CommandName, Role};
 use std::rt::Files;
@@ -13,34 +14,40 @@ const OUT_IS_SHELF: &str =
 const NEW_IS_OFFICE: &str = "error: NEW is an office file";
 
 /// What is wrong with the file that the command would replace: nobody replaces an office file by a register on purpose, nor a shelf by
-/// a file.
+/// a file. The fault is the place from which on it cannot be read.
 pub fn overwritten<R: Files>(
     rt: &R,
     name: CommandName,
     matches: &ArgMatches<'_>,
-) -> Option<&'static str> {
+) -> Result<Option<&'static str>, usize> {
     match name {
         // It replaces nothing.
-        CommandName::Office => None,
+        CommandName::Office => Ok(None),
+        // It is refused before NEW is opened.
+        CommandName::Shelf if shelf_size(matches).is_none() => Ok(None),
         // It replaces a shelf by an empty one, as its help says.
-        CommandName::Shelf => {
-            if FileHead::at(rt, word(matches, "NEW"))?.is_office() {
-                return Some(NEW_IS_OFFICE);
+        CommandName::Shelf => match spoiled(rt, word(matches, "NEW"))? {
+            Some(Spoiled::Office) => Ok(Some(NEW_IS_OFFICE)),
+            _ => Ok(None),
+        },
+        _ => {
+            let Some(path) = output(name, matches) else {
+                return Ok(None);
+            };
+            match spoiled(rt, path)? {
+                Some(Spoiled::Office) => Ok(Some(OUT_IS_OFFICE)),
+                Some(Spoiled::Shelf) => Ok(Some(OUT_IS_SHELF)),
+                None => Ok(None),
             }
-            None
         }
-        _ => spoiled(&FileHead::at(rt, output(name, matches)?)?),
     }
 }
 
-fn spoiled(head: &FileHead) -> Option<&'static str> {
-    if head.is_office() {
-        return Some(OUT_IS_OFFICE);
+fn spoiled<R: Files>(rt: &R, path: &str) -> Result<Option<Spoiled>, usize> {
+    match FileHead::at(rt, path)? {
+        Some(head) => Ok(head.spoils()),
+        None => Ok(None),
     }
-    if head.is_shelf() {
-        return Some(OUT_IS_SHELF);
-    }
-    None
 }
 
 // The file that the command writes, unless it is its shelf. A register that it reads and changes is no office file, or it is refused.

@@ -1,13 +1,15 @@
 //! What standard error reports of faults, of what was left out, and of what was brought.
 use crate::telling::{Said, SaidLast, StandardError};
-use cli_exchange::faults::sentences::{KeyTaken, LEAVES_OUT, Shown, SpecialCommand};
-use cli_exchange::faults::{CommandFiles, SecondLook, add, explain, explain_word, say};
+use cli_change::{ListFault, ToldLine};
 use cli_exchange::{Gained, say_gained};
-use cli_import::changes::{ListFault, ToldLine};
+use cli_faults::{CommandFiles, SecondLook, add, explain, explain_word, say};
 use cli_import::{Brought, NotImported, say_brought};
-use cli_look::desk::{CliFault, Comparison, Explained, ImportFault, OpId, Refusal, Unimported};
 use cli_look::handing::LeftKey;
 use cli_look::say_hidden;
+use cli_sentences::{KeyTaken, LEAVES_OUT, Shown, TAKE_JOINS};
+use reg_desk::{Comparison, Explained, ImportFault, Unimported};
+use reg_engine::{CliFault, Refusal};
+use reg_op::OpId;
 use reg_take::LeftOut;
 
 /// The exit status for a refusal.
@@ -63,7 +65,6 @@ impl Said for Unimported {
         to.line(&self.fault);
         explain_import(to, self.fault);
         add(to.rt, &self.notes, to.named);
-        advise(to, &self.fault);
         self.fault.status()
     }
 }
@@ -80,6 +81,7 @@ impl Said for NotImported {
     fn say(&self, to: &StandardError<'_, '_>) -> u8 {
         if is_refused(&self.why.fault) {
             let status = self.why.say(to);
+            advise(to, self.is_own);
             say_brought(to.rt, &self.brought);
             return status;
         }
@@ -206,17 +208,15 @@ fn is_refused(fault: &ImportFault) -> bool {
     }
 }
 
-// Says how an import passes over a text.
-fn advise(to: &StandardError<'_, '_>, fault: &ImportFault) {
+// Says how an import passes over a text, or which command takes a file of crsreg.
+fn advise(to: &StandardError<'_, '_>, is_own: bool) {
     let Some(named) = to.named else {
         return;
     };
-    if let ImportFault::Refused { .. } = fault {
-        if let SpecialCommand::Import { .. } = named.command {
-            if !named.keeps_going {
-                to.line(&LEAVES_OUT);
-            }
-        }
+    if is_own {
+        to.line(&TAKE_JOINS);
+    } else if !named.keeps_going {
+        to.line(&LEAVES_OUT);
     }
 }
 

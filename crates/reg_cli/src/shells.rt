@@ -1,8 +1,8 @@
 //! `completions`.
 use clap::ArgMatches;
-use cli_look::desk::CliFault;
 use cli_open::{print, word};
 use cli_words::{Defaults, Shell, command_line, completion_script};
+use reg_engine::CliFault;
 
 /// `completions`, if there is a shell with this name.
 pub fn completions(rt: &HostRuntime, matches: &ArgMatches<'_>) -> Option<Result<(), CliFault>> {

@@ -1,7 +1,7 @@
 //! Standard error, where the end of a command is printed.
 
 use clap::ArgMatches;
-use cli_exchange::faults::CommandFiles;
+use cli_faults::CommandFiles;
 use cli_open::ending::Teller;
 use std::fmt;
 

@@ -7,8 +7,8 @@ use Rattle.reg_journal.specs.Journal.{Journal}
 use Rattle.reg_journal.specs.Again.{is_again, LastAgain}
 use Rattle.reg_engine.specs.Outputs.{id_lines}
 
--- whether the office made these effects with this note before, from a number on, and the register x has not got them. It is joined
--- to z with all that the office made
+-- whether the office made these effects with this note before, from a number on, and need not make them again: the register x has not
+-- got them, or would have a text twice. It is joined to z with all that the office made
 abbrev pub made_before : Journal → List ℕ → List Body → Content → Content → ℕ → Bool
 made_before f note effects x z n = is_again x.seen z.ops f.replica note effects n
 

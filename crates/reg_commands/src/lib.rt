@@ -31,6 +31,3 @@ pub use wkt::{Form, Wkt, run_wkt};
 pub use words::{
     ByWord, ByWords, ChangeOf, PrintOf, RetireOf, ShowOf, SupersedeOf, WktOf, fault_of,
 };
-
-// The crate of drivers and faults, so that callers need only this one.
-pub use reg_engine as engine;

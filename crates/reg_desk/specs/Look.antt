@@ -1,11 +1,12 @@
 -- Files and shelves that are inspected: the register that each has, or its fault.
-use Rattle.std.specs.Prelude.{◌≡◌, ◌⊎◌, ℕ, ◌≤◌, ◌<◌, Bool, true, false, IsTrue, List, [], ◌∷◌, length, Option, Some, None}
+use Rattle.std.specs.Prelude.{◌≡◌, ◌⊎◌, ℕ, ◌≤◌, ◌<◌, Bool, true, false, IsTrue, List, [], ◌∷◌, length, Result, Ok, Err}
 use Rattle.byte_io.specs.Device.{SourceState}
 use Rattle.reg_op.specs.Contents.{Content}
 use Rattle.reg_file.specs.Files.{most, ReadsAs, ReadsBytes}
 use Rattle.reg_file.specs.Reading.{HasFault}
 use Rattle.reg_engine.specs.declared.fault.InputFault.{InputFault}
 use Rattle.reg_engine.specs.declared.fault.InputFault.TheVariants as file
+use Rattle.reg_engine.specs.declared.fault.ShelfProblem.{ShelfProblem}
 use Rattle.reg_engine.specs.declared.fault.ShelfProblem.TheVariants as problem
 use Rattle.reg_engine.specs.declared.fault.CliFault.TheVariants as cli
 use Rattle.reg_engine.specs.Inputs.{IsFileFault}
@@ -81,33 +82,33 @@ IsRegisterLook bytes (look.NoShelf p) = (p ≡ problem.NotShelf) × ((x : Conten
 abbrev pub itself : {T : Type 0} → T → T
 itself it = it
 
--- the state of a device, opened or not
-abbrev pub opened_state : {S T : Type 0} → (S → T) → OpenedDisk S → Option T
-opened_state state (opened.Source source) = Some (state source)
-opened_state state opened.NotOpened = None
+-- the state of a disk, or why it was not opened
+abbrev pub opened_state : {S T : Type 0} → (S → T) → OpenedDisk S → Result T ShelfProblem
+opened_state state (opened.Source source) = Ok (state source)
+opened_state state (opened.Unopened p) = Err p
 
--- the result for it; a device that was not opened has this result
-abbrev pub LooksAt : {T : Type 0} → (T → T → Look → Type 0) → Look → Option T → Option T → Look → Type 0
-LooksAt Is unopened None None l = l ≡ unopened
-LooksAt Is unopened None (Some new) l = ⊥
-LooksAt Is unopened (Some old) None l = ⊥
-LooksAt Is unopened (Some old) (Some new) l = Is old new l
+-- the result for it; that of a disk that was not opened is the reason
+abbrev pub LooksAt : {T : Type 0} → (T → T → Look → Type 0) → Result T ShelfProblem → Result T ShelfProblem → Look → Type 0
+LooksAt Is (Err p) (Err q) l = l ≡ look.NoShelf p
+LooksAt Is (Err p) (Ok new) l = ⊥
+LooksAt Is (Ok old) (Err q) l = ⊥
+LooksAt Is (Ok old) (Ok new) l = Is old new l
 
 -- a disk tells what it told before
 abbrev pub StillTells : {D : Type 0} → Disks D → D → D → Type 0
 StillTells d old new = d.tells new ≡ d.tells old
 
-abbrev pub ShelfLooksAt : {D : Type 0} → Disks D → Option D → Option D → Look → Type 0
-ShelfLooksAt d = LooksAt (λ old new l. IsShelfLook d old new l × StillTells d old new) (look.NoShelf problem.NotOpened)
+abbrev pub ShelfLooksAt : {D : Type 0} → Disks D → Result D ShelfProblem → Result D ShelfProblem → Look → Type 0
+ShelfLooksAt d = LooksAt (λ old new l. IsShelfLook d old new l × StillTells d old new)
 
--- a device that was opened is unchanged
-abbrev pub StaysAt : {T : Type 0} → (T → T → Type 0) → Option T → Option T → Type 0
-StaysAt Stays None None = Unit {0}
-StaysAt Stays None (Some new) = ⊥
-StaysAt Stays (Some old) None = ⊥
-StaysAt Stays (Some old) (Some new) = Stays old new
+-- a disk that was opened is unchanged
+abbrev pub StaysAt : {T : Type 0} → (T → T → Type 0) → Result T ShelfProblem → Result T ShelfProblem → Type 0
+StaysAt Stays (Err p) (Err q) = q ≡ p
+StaysAt Stays (Err p) (Ok new) = ⊥
+StaysAt Stays (Ok old) (Err q) = ⊥
+StaysAt Stays (Ok old) (Ok new) = Stays old new
 
-abbrev pub ShelfStaysAt : {D : Type 0} → Disks D → Option D → Option D → Type 0
+abbrev pub ShelfStaysAt : {D : Type 0} → Disks D → Result D ShelfProblem → Result D ShelfProblem → Type 0
 ShelfStaysAt d = StaysAt (λ old new. StaysOn d old new × StillTells d old new)
 
 -- the result for each, in order

@@ -27,11 +27,11 @@ pub enum Look {
     NoShelf(ShelfProblem),
 }
 
-/// A disk that was opened, or that could not be opened.
+/// A disk that was opened, or why it was not.
 #[derive(Drop)]
 pub enum OpenedDisk<S> {
     Source(S),
-    NotOpened,
+    Unopened(ShelfProblem),
 }
 
 /// A file or a shelf to inspect.
@@ -101,7 +101,7 @@ impl<D: Disk> Inspect for ShelfAt<D> {
     fn look(&mut self, alloc: Global) -> Result<Look, AllocError> {
         match &mut self.opened {
             OpenedDisk::Source(disk) => look_on(alloc, disk),
-            OpenedDisk::NotOpened => Ok(Look::NoShelf(ShelfProblem::NotOpened)),
+            OpenedDisk::Unopened(problem) => Ok(Look::NoShelf(*problem)),
         }
     }
 }

@@ -1,5 +1,5 @@
 -- The graph of a register.
-use Rattle.std.specs.Prelude.{◌≡◌, ◌⊎◌, ◌++◌, ℕ, Bool, true, false, List, [], ◌∷◌, map, Contains, Option, Some, None, if◌then◌else◌}
+use Rattle.std.specs.Prelude.{◌≡◌, ◌⊎◌, ◌++◌, ℕ, Bool, true, false, List, [], ◌∷◌, map, codes, Contains, Option, Some, None, if◌then◌else◌}
 use Rattle.std.specs.List.{flat_map}
 use Rattle.std.specs.Str.{bytes_eq}
 use Rattle.csv_table.specs.declared.offices.names.Name.{Name}
@@ -17,16 +17,16 @@ use Rattle.reg_op.specs.declared.status.Status.{Status}
 use Rattle.reg_op.specs.declared.status.Status.TheVariants.{Valid, Superseded, Retired}
 use Rattle.reg_report.specs.Conflicts.{Contested, AreConflicts}
 use Rattle.crs_export.specs.declared.title.Title.{Title}
-use Rattle.crs_export.specs.declared.markup.TheConstants.{GRAPH_START, GRAPH_END, VALID_COLOR, SUPERSEDED_COLOR, RETIRED_COLOR}
+use Rattle.crs_export.specs.declared.markup.TheConstants.{GRAPH_START, GRAPH_END}
 use Rattle.crs_export.specs.Graphs.{node, caption, edge, rivals}
 use Rattle.crs_export.specs.Drawing.{Statement, node_statement, caption_statement, edge_statement, rivals_statement, graph_statements}
-use Rattle.reg_export.specs.Titles.{IsTitle, Each}
+use Rattle.reg_export.specs.Titles.{IsLabel, Each}
 
 abbrev pub color_of : Option Status → List ℕ
 color_of None = []
-color_of (Some Valid) = VALID_COLOR.now
-color_of (Some Superseded) = SUPERSEDED_COLOR.now
-color_of (Some Retired) = RETIRED_COLOR.now
+color_of (Some Valid) = codes "palegreen"
+color_of (Some Superseded) = codes "khaki"
+color_of (Some Retired) = codes "lightgray"
 
 -- an entry that is superseded, and those that supersede it
 abbrev pub linked_by : Id → List Id → List Id
@@ -51,7 +51,7 @@ abbrev pub IsDrawn : Bool → List Id → Row → Type 0
 IsDrawn all ids r = (all ≡ true) ⊎ Contains ids r.entry
 
 abbrev pub IsNodeOf : Bool → List Id → Row → List ℕ → Type 0
-IsNodeOf all ids r bytes = (IsDrawn all ids r × ((t : Title) × IsTitle r t × (bytes ≡ node t (color_of r.status)))) ⊎ ((¬ (IsDrawn all ids r)) × (bytes ≡ []))
+IsNodeOf all ids r bytes = (IsDrawn all ids r × ((t : Title) × IsLabel r t × (bytes ≡ node t (color_of r.status)))) ⊎ ((¬ (IsDrawn all ids r)) × (bytes ≡ []))
 
 -- what is read in the place of an id: it has the name of its office, if there is one
 abbrev pub named : List Name → Id → List ℕ
@@ -114,7 +114,7 @@ IsGraph all names x text = (cs : List Contested) × AreConflicts (rows x.ops) cs
 
 -- the statement of the row's node, if the row's entry is drawn
 abbrev pub IsNodeStatement : Bool → List Id → Row → List Statement → Type 0
-IsNodeStatement all ids r ss = (IsDrawn all ids r × ((t : Title) × IsTitle r t × (ss ≡ node_statement t (color_of r.status) ∷ []))) ⊎ ((¬ (IsDrawn all ids r)) × (ss ≡ []))
+IsNodeStatement all ids r ss = (IsDrawn all ids r × ((t : Title) × IsLabel r t × (ss ≡ node_statement t (color_of r.status) ∷ []))) ⊎ ((¬ (IsDrawn all ids r)) × (ss ≡ []))
 
 abbrev pub label_statements_for : List ℕ → List ℕ → List Statement
 label_statements_for id read = if bytes_eq read id then [] else caption_statement id read ∷ []

@@ -9,20 +9,22 @@ ghost use Rattle.reg_report.specs.Conflicts.{Contested};
 ghost use Rattle.reg_report.specs.Contenders.{conflict_seen};
 ghost use Rattle.reg_report.specs.Seen.{row_seen};
 ghost use Rattle.reg_export.specs.Graph.{color_of, linked_by, awaited_links, links_in, linked, IsNodeOf, edges_from, edges_of, awaited_edges, edges_in, all_edges, rivals_from, rivals_among, rivals_of, IsGraph};
-ghost use Rattle.reg_export.specs.Titles.{IsTitle, Each};
+ghost use Rattle.reg_export.specs.Titles.{IsLabel, Each};
 ghost use Rattle.crs_export.specs.declared.title.Title.{Title};
 ghost use Rattle.crs_export.specs.declared.markup.TheConstants as markup;
 ghost use Rattle.crs_export.specs.Graphs.{node};
+ghost use Rattle.text_hidden.specs.Short.{short};
 
 use crate::edges::push_edge_of;
 use crate::title::title_of;
 use crs_export::markup::{GRAPH_END, GRAPH_START, RETIRED_COLOR, SUPERSEDED_COLOR, VALID_COLOR};
-use crs_export::{push_node, push_rivals};
+use crs_export::{Title as Label, push_node, push_rivals};
 use csv_table::offices::Name;
 use reg_op::{Op, OpBody, OpId, Status};
 use reg_report::{Conflict, Row, conflicts, is_among, is_entered, printed, rows};
 use reg_state::Register;
 use std::alloc::{AllocError, Global};
+use text_hidden::push_short;
 
 fn color_of(status: Status) -> &'static [u8]
     ensures { result.now ≡ color_of (Some status) }
@@ -129,12 +131,32 @@ fn is_drawn(all: bool, ids: &[OpId], id: OpId) -> bool
     is_among(ids, id)
 }
 
+// The first characters of a text.
+fn short_of(alloc: Global, text: &[u8]) -> Result<Vec<u8>, AllocError>
+    ensures { IfOk result (λ made. made.items ≡ short text.now) }
+{
+    let mut made = Vec::new(alloc);
+    push_short(&mut made, text)?;
+    Ok(made)
+}
+
+// Appends the node of an entry. Of its key and its name there are the first characters: Graphviz refuses a graph with a long label.
 fn push_drawn(alloc: Global, text: &mut Vec<u8>, row: &Row) -> Result<(), AllocError>
-    ensures { OnOk result ((t : Title) × IsTitle (row_seen row.now) t × (text.new.items ≡ text.old.items ++ node t (color_of (Some row.now.status)))) }
+    ensures { OnOk result ((t : Title) × IsLabel (row_seen row.now) t × (text.new.items ≡ text.old.items ++ node t (color_of (Some row.now.status)))) }
 {
     let entry = printed(alloc, row.entry)?;
     let title = title_of(row, &entry);
-    push_node(text, &title, color_of(row.status))?;
+    let authority = short_of(alloc, title.authority)?;
+    let code = short_of(alloc, title.code)?;
+    let name = short_of(alloc, title.name)?;
+    let label = Label {
+        entry: title.entry,
+        authority: &authority,
+        code: &code,
+        name: &name,
+        status: title.status,
+    };
+    push_node(text, &label, color_of(row.status))?;
     Ok(())
 }
 

@@ -74,14 +74,14 @@ unpublished_with f a b y read text bytes next place after office noted e is held
     unpublished f a b y read bytes next place after office noted is held
     (subst (λ (t : Option (List ℕ)). IsUnreplaced read bytes t place after office noted f) e h)
 
-pub published_with : (a b : Journal) (y : Content) (read text : Option (List ℕ)) (bytes next : List ℕ) (same : Bool) (place after office noted told : PlaceState)
+pub published_with : (a b : Journal) (y : Content) (read text : Option (List ℕ)) (bytes next : List ℕ) (same changed : Bool) (place after office noted told : PlaceState)
     → text ≡ if_changed (is_changed a b) next → Holds bytes y → HoldsOffice next b → ReplacesAfter read bytes text place after office noted
-    → same ≡ is_some read → Tells (is_first same b) b noted told → PublishesAfter a b y read place after office told
-published_with a b y read text bytes next same place after office noted told e is held h s t = record {
+    → same ≡ is_some read → changed ≡ is_changed a b → Tells changed (is_first same b) b noted told → PublishesAfter a b y read place after office told
+published_with a b y read text bytes next same changed place after office noted told e is held h s c t = record {
   noted = noted;
   notes = (next, held, subst (λ (t : Option (List ℕ)). NotesIf t office noted) e h.1);
   publishes = (bytes, is, h.0);
-  tells = subst (λ (s : Bool). Tells (is_first s b) b noted told) s t;
+  tells = subst (λ (c : Bool). Tells c (is_first (is_some read) b) b noted told) c (subst (λ (s : Bool). Tells changed (is_first s b) b noted told) s t);
 }
 
 -- ---- a shelf

@@ -1,10 +1,11 @@
 -- Keeping a register after the office file got what a command made.
-use Rattle.std.specs.Prelude.{◌≡◌, ◌⊎◌, ◌&&◌, nat_eq, Bool, true, false, List, ℕ, Option, Some, None, is_some}
+use Rattle.std.specs.Prelude.{◌≡◌, ◌⊎◌, ◌&&◌, nat_eq, nat_lt, Bool, true, false, List, ℕ, Option, Some, None, is_some}
 use Rattle.byte_out.specs.Place.{PlaceState}
 use Rattle.byte_out.specs.Replace.{Replaces, IsReplaceFault}
 use Rattle.byte_out.specs.declared.fault.ReplaceFault.{ReplaceFault}
 use Rattle.byte_out.specs.declared.fault.ReplaceFault.TheVariants as replaced
-use Rattle.byte_office.specs.Noting.{NotesIf, IsUnnotedIf}
+use Rattle.byte_office.specs.Noting.{NotesIf, IsUnnoted, IsUnnotedIf}
+use Rattle.byte_office.specs.Noting.{Notes as Makes}
 use Rattle.byte_office.specs.Replacing.{IsWithdrawn, IsLate}
 use Rattle.byte_office.specs.declared.fault.OfficeFileFault.{OfficeFileFault}
 use Rattle.byte_office.specs.declared.fault.OfficeFileFault.TheVariants as note
@@ -36,20 +37,34 @@ abbrev pub IsUnnotedBy : Journal → Journal → PlaceState → PlaceState → O
 IsUnnotedBy f g office noted note.TooLarge = IsOfficeTooLarge g × (noted ≡ office)
 IsUnnotedBy f g office noted t = (text : List ℕ) × HoldsOffice text g × IsUnnotedIf (if_changed (is_changed f g) text) office noted t
 
--- the office file has this text, and gets that of the other office file; or it is as before, if another command is at work, the
--- system fails or memory runs out
-abbrev pub Tries : Journal → Journal → PlaceState → PlaceState → Type 0
-Tries f g old new = (new ≡ old) ⊎ ((text : List ℕ) × (next : List ℕ) × HoldsOffice text f × HoldsOffice next g
-    × (Replaces (Some text) next old new ⊎ ((t : ReplaceFault) × IsReplaceFault (Some text) next old new t)))
-
--- the register that is left is the one that was read, and the office file does not know yet that a number of it stood in one
+-- the register that is left is the one that was read, it has a number of the office, and the office file does not know yet that one
+-- stood in a register
 abbrev pub is_first : Bool → Journal → Bool
-is_first same f = same && nat_eq f.stood 0
+is_first same f = same && (nat_eq f.stood 0 && nat_lt 0 f.last)
 
--- the office file has noted that its last number stands in a register, if it is the first one
-abbrev pub Tells : Bool → Journal → PlaceState → PlaceState → Type 0
-Tells true f old new = Tries f (landed f) old new
-Tells false f old new = new ≡ old
+-- the text of the office file once its last number stands in a register; there is none if it does not stand there for the first time, or
+-- if the text would be too large
+abbrev pub IsLandedText : Bool → Journal → Option (List ℕ) → Type 0
+IsLandedText true f (Some text) = HoldsOffice text (landed f)
+IsLandedText true f None = IsOfficeTooLarge (landed f)
+IsLandedText false f (Some text) = ⊥
+IsLandedText false f None = Unit {0}
+
+-- the office file has the first text, and gets the second one; or that fails. If it was replaced before, its new file has to be made
+-- again, and the old one compared; otherwise its new file is there already
+abbrev pub Tries : Bool → List ℕ → List ℕ → PlaceState → PlaceState → Type 0
+Tries true text next old new = Replaces (Some text) next old new ⊎ ((t : ReplaceFault) × IsReplaceFault (Some text) next old new t)
+Tries false text next old new = Makes next old new ⊎ ((t : OfficeFileFault) × IsUnnoted next old new t)
+
+-- the same if there is a second text
+abbrev pub TriesIf : Bool → List ℕ → Option (List ℕ) → PlaceState → PlaceState → Type 0
+TriesIf changed text None old new = new ≡ old
+TriesIf changed text (Some next) old new = Tries changed text next old new
+
+-- the office file, which was replaced before or not, has noted that its last number stands in a register, if it does for the first
+-- time; or that failed
+abbrev pub Tells : Bool → Bool → Journal → PlaceState → PlaceState → Type 0
+Tells changed first f old new = (text : List ℕ) × (next : Option (List ℕ)) × HoldsOffice text f × IsLandedText first f next × TriesIf changed text next old new
 
 -- the office file has the second one's text, and the register's file is there. If that is the file that was read, the office file
 -- knows that its last number stands in a register
@@ -57,7 +72,7 @@ pub record PublishesAfter (f g : Journal) (y : Content) (read : Option (List ℕ
   pub noted : PlaceState
   pub notes : Notes f g office noted
   pub publishes : PublishesFile y read place after
-  pub tells : Tells (is_first (is_some read) g) g noted told
+  pub tells : Tells (is_changed f g) (is_first (is_some read) g) g noted told
 
 -- the file of the register was ready, and the old one is still there; or nothing was made ready
 abbrev pub IsWithdrawnFile : Content → PlaceState → PlaceState → Type 0
@@ -90,7 +105,7 @@ pub record KeepsAfter {D : Type 0} (d : Disks D) (f g : Journal) (x y : Content)
   pub noted : PlaceState
   pub notes : Notes f g office noted
   pub keeps : KeepsOn d x y old new
-  pub tells : Tells (is_first true g) g noted told
+  pub tells : Tells (is_changed f g) (is_first true g) g noted told
 
 -- the office file would be too large, and nothing was written; or it was not replaced, or not for sure; or no frame was made
 -- ready, and the office file is unchanged; or that has its text, and the disk failed

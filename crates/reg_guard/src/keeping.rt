@@ -5,12 +5,11 @@ ghost use Rattle.reg_op.specs.Contents.{Content};
 ghost use Rattle.reg_engine.specs.Shelf.{disks, Has, IsSure};
 ghost use Rattle.reg_engine.specs.declared.fault.CliFault.TheVariants as cli;
 ghost use Rattle.byte_office.specs.declared.fault.OfficeFileFault.TheVariants as note;
-ghost use Rattle.reg_journal.specs.Adding.{landed};
 ghost use Rattle.reg_journal.specs.Text.{HoldsOffice, IsOfficeTooLarge};
-ghost use Rattle.reg_guard.specs.Keeping.{if_changed, is_first, PublishesAfter, IsUnpublishedAfter, KeepsAfter, IsUnkeptAfter, Tells, Tries, unkept_fault};
+ghost use Rattle.reg_guard.specs.Keeping.{if_changed, is_first, IsLandedText, PublishesAfter, IsUnpublishedAfter, KeepsAfter, IsUnkeptAfter, Tries, TriesIf, unkept_fault};
 
 use byte_disk::Disk;
-use byte_office::{OfficeFileFault, UnreplacedFault, put_changed, replace_after};
+use byte_office::{OfficeFileFault, UnreplacedFault, put_changed, put_office, replace_after};
 use byte_out::{Place, replace};
 use reg_engine::{CliFault, OutFault, put_on, ready_on};
 use reg_file::{RegisterChunks, WriteFileFault};
@@ -38,17 +37,22 @@ pub(crate) fn publish_after<P: Place, Q: Place>(
         Ok(text) => text,
         Err(fault) => return Err(fault),
     };
+    let is_changed = file.is_changed(&next);
+    let landed = match landed_text(alloc, read.is_some(), next) {
+        Ok(landed) => landed,
+        Err(fault) => return Err(fault),
+    };
     let mut chunks = match RegisterChunks::new(alloc, register) {
         Ok(chunks) => chunks,
         Err(WriteFileFault::TooLarge) => return Err(CliFault::Out(OutFault::TooLarge)),
         Err(_) => return Err(CliFault::Memory),
     };
-    let changed = changed(file.is_changed(&next), &text);
+    let changed = changed(is_changed, &text);
     match replace_after(place, read, &mut chunks, office, changed) {
         Ok(()) => {}
         Err(fault) => return Err(unkept_by(fault)),
     }
-    tell_first(alloc, read.is_some(), next, &text, office);
+    tell_first(is_changed, &text, &landed, office);
     Ok(())
 }
 
@@ -76,11 +80,16 @@ pub(crate) fn keep_after<D: Disk, Q: Place>(
         Ok(text) => text,
         Err(fault) => return Err(fault),
     };
+    let is_changed = file.is_changed(&next);
+    let landed = match landed_text(alloc, true, next) {
+        Ok(landed) => landed,
+        Err(fault) => return Err(fault),
+    };
     let frame = match ready_on(alloc, disk, register) {
         Ok(frame) => frame,
         Err(fault) => return Err(fault),
     };
-    let changed = changed(file.is_changed(&next), &text);
+    let changed = changed(is_changed, &text);
     if let Err(fault) = put_changed(office, changed) {
         return Err(CliFault::Office(fault));
     }
@@ -88,7 +97,7 @@ pub(crate) fn keep_after<D: Disk, Q: Place>(
         Ok(()) => {}
         Err(fault) => return Err(fault),
     }
-    tell_first(alloc, true, next, &text, office);
+    tell_first(is_changed, &text, &landed, office);
     Ok(())
 }
 
@@ -121,28 +130,53 @@ fn unkept_by(fault: UnreplacedFault) -> CliFault
     }
 }
 
-// Tells the office file that its last number stands in a register, if that is the first one: the file that was read. The command
-// is done by then: if this fails, the next command finds the number in the register.
-fn tell_first<Q: Place>(alloc: Global, is_same: bool, next: OfficeFile, text: &[u8], office: &mut Q)
-    requires { HoldsOffice text.now next }
-    ensures { Tells (is_first is_same next) next (Q.state office.old) (Q.state office.new) }
+// The text of the office file once its last number stands in a register, if it will for the first time: in the file that was read.
+// There is none if it would be too large.
+fn landed_text(alloc: Global, is_same: bool, next: OfficeFile) -> Result<Option<Vec<u8>>, CliFault>
+    ensures landed { IfOk result (λ t. IsLandedText (is_first is_same next) next (option_map (λ v. v.items) t)) }
+    ensures memory { IfErr result (λ f. f ≡ cli.Memory) }
 {
-    if is_same && next.stood() == 0 {
-        tell(alloc, next, text, office);
+    if !is_first(is_same, &next) {
+        return Ok(None);
     }
-}
-
-fn tell<Q: Place>(alloc: Global, next: OfficeFile, text: &[u8], office: &mut Q)
-    requires { HoldsOffice text.now next }
-    ensures { Tries next (landed next) (Q.state office.old) (Q.state office.new) }
-{
     let mut landed = next;
     let last = landed.last();
     landed.stood_to(last);
-    let Ok(told) = landed.to_bytes(alloc) else {
+    match landed.to_bytes(alloc) {
+        Ok(text) => Ok(Some(text)),
+        Err(WriteFileFault::TooLarge) => Ok(None),
+        Err(_) => Err(CliFault::Memory),
+    }
+}
+
+fn is_first(is_same: bool, next: &OfficeFile) -> bool
+    ensures { result ≡ is_first is_same next.now }
+{
+    is_same && next.stood() == 0 && next.last() > 0
+}
+
+// Tells the office file that its last number stands in a register, if there is a text that says so. The command is done by then: if this
+// fails, the next command finds the number in the register.
+fn tell_first<Q: Place>(is_changed: bool, text: &[u8], landed: &Option<Vec<u8>>, office: &mut Q)
+    ensures { TriesIf is_changed text.now (option_map (λ v. v.items) landed.now) (Q.state office.old) (Q.state office.new) }
+{
+    if let Some(landed) = landed {
+        tell(is_changed, text, landed, office);
+    }
+}
+
+fn tell<Q: Place>(is_changed: bool, text: &[u8], landed: &[u8], office: &mut Q)
+    ensures { Tries is_changed text.now landed.now (Q.state office.old) (Q.state office.new) }
+{
+    if is_changed {
+        match replace(office, Some(text), landed) {
+            Ok(()) => {}
+            Err(_) => {}
+        }
         return;
-    };
-    match replace(office, Some(text), &told) {
+    }
+    // Its new file was not used.
+    match put_office(office, landed) {
         Ok(()) => {}
         Err(_) => {}
     }

@@ -8,10 +8,7 @@ mod opening;
 mod store;
 mod trying;
 
-pub use byte_office::{NewStdPlace, OfficeFileFault};
 pub use making::run_office;
 pub use opening::{busy, lock_office, office_in, unopened};
-pub use reg_engine as engine;
-pub use reg_journal::OfficeFile;
 pub use store::{GuardedFile, GuardedShelf};
 pub use trying::{TriedFile, TriedShelf};

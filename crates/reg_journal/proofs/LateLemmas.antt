@@ -1,5 +1,5 @@
--- A command that did not arrive, run again.
-use Rattle.std.proofs.Common.{◌≡◌, ℕ, ◌+◌, ◌<◌, ◌≤◌, Bool, true, false, ◌&&◌, List, [], ◌∷◌, length, refl, sym, ap, ◌∙◌, subst, arith, nat_lt}
+-- A command that was stopped, run again.
+use Rattle.std.proofs.Common.{◌≡◌, ◌⊎◌, inl, inr, ℕ, zero, suc, ◌+◌, ◌<◌, ◌≤◌, Bool, true, false, ◌&&◌, List, [], ◌∷◌, length, refl, sym, ap, ◌∙◌, subst, arith, nat_lt}
 use Rattle.std.proofs.lemmas.Bool.{true≢false, and_from, and_parts, false_from_ne_true, lt-ltb}
 use Rattle.std.specs.List.{list_all, list_any}
 use Rattle.std.specs.Cmp.{both_ways, tied_itself}
@@ -16,37 +16,39 @@ use Rattle.reg_op.specs.Status.{enters, is_enter}
 use Rattle.reg_op.proofs.OpLemmas.{op_total, op_exact, id_total}
 use Rattle.reg_op.proofs.FiniteLemmas.{any_from_member}
 use Rattle.reg_state.specs.Runs.{id_at}
+use Rattle.reg_state.proofs.RunLemmas.{replica_itself}
 use Rattle.reg_office.specs.Making.{greatest, numbered}
-use Rattle.reg_office.proofs.NumberLemmas.{count-greatest}
-use Rattle.reg_journal.specs.Again.{is_late, is_again}
+use Rattle.reg_office.proofs.NumberLemmas.{count-greatest, greatest_there, op_cases}
+use Rattle.reg_journal.specs.Journal.{is_own}
+use Rattle.reg_journal.specs.Again.{is_found, is_again}
 use Rattle.reg_journal.proofs.ForgedLemmas.{one_by_id, has_any}
 
-late_there : (seen : Ids) (y : Content) (o : Op) → is_late seen y.ops o ≡ true → contains y.ops o ≡ true
-late_there seen y o h = (and_parts _ _ (and_parts _ _ h).1).0
+found_there : (seen : Ids) (y : Content) (o : Op) → is_found seen y.ops o ≡ true → contains y.ops o ≡ true
+found_there seen y o h = (and_parts _ _ (and_parts _ _ h).0).0
 
 module _ (seen : Ids) (y : Content) (r note : List ℕ) (is : IsContent y) where
-  abbrev pub all_late : ℕ → List Body → Bool
-  all_late n es = list_all (is_late seen y.ops) (numbered r n note es)
+  abbrev pub all_found : ℕ → List Body → Bool
+  all_found n es = list_all (is_found seen y.ops) (numbered r n note es)
 
-  first_late : (n : ℕ) (e : Body) (es : List Body) → all_late n (e ∷ es) ≡ true → contains y.ops (record { id = id_at r n; body = e; note = note }) ≡ true
-  first_late n e es h = late_there seen y _ (and_parts _ _ h).0
+  first_found : (n : ℕ) (e : Body) (es : List Body) → all_found n (e ∷ es) ≡ true → contains y.ops (record { id = id_at r n; body = e; note = note }) ≡ true
+  first_found n e es h = found_there seen y _ (and_parts _ _ h).0
 
   -- the last number is one that the join has seen, and the first is not 0
-  late_bound : (n : ℕ) (e : Body) (es : List Body) → all_late n (e ∷ es) ≡ true → n + length es ≤ greatest r y.seen
-  late_bound n e [] h =
-      let top = count-greatest r y.seen (id_at r n) (is.are_seen _ (first_late n e [] h)) refl in
+  found_bound : (n : ℕ) (e : Body) (es : List Body) → all_found n (e ∷ es) ≡ true → n + length es ≤ greatest r y.seen
+  found_bound n e [] h =
+      let top = count-greatest r y.seen (id_at r n) (is.are_seen _ (first_found n e [] h)) refl in
       omega (arith, top)
-  late_bound n e (f ∷ es) h = let top = late_bound (n + 1) f es (and_parts _ _ h).1 in omega (arith, top)
+  found_bound n e (f ∷ es) h = let top = found_bound (n + 1) f es (and_parts _ _ h).1 in omega (arith, top)
 
-  late_positive : (n : ℕ) (e : Body) (es : List Body) → all_late n (e ∷ es) ≡ true → 1 ≤ n
-  late_positive n e es h = (is.are_ids (id_at r n) (is.are_seen _ (first_late n e es h))).positive
+  found_positive : (n : ℕ) (e : Body) (es : List Body) → all_found n (e ∷ es) ≡ true → 1 ≤ n
+  found_positive n e es h = (is.are_ids (id_at r n) (is.are_seen _ (first_found n e es h))).positive
 
   again_bound : (m : ℕ) (es : List Body) → is_again seen y.ops r note es m ≡ true → (1 ≤ m) × (m + length es ≤ greatest r y.seen + 1)
   again_bound m [] h = absurd (true≢false (sym h))
   again_bound m (e ∷ es) h =
-      let l = (and_parts (nat_lt 0 (length (e ∷ es))) (all_late m (e ∷ es)) h).1 in
-      let top = late_bound m e es l in
-      (late_positive m e es l, omega (arith, top))
+      let l = (and_parts (nat_lt 0 (length (e ∷ es))) (all_found m (e ∷ es)) h).1 in
+      let top = found_bound m e es l in
+      (found_positive m e es l, omega (arith, top))
 
   -- no such number is above the greatest one that leaves room for all effects
   pub none_beyond : (m g : ℕ) (es : List Body) → g ≡ greatest r y.seen → g + 1 < m + length es → is_again seen y.ops r note es m ≡ false
@@ -63,8 +65,57 @@ module _ (seen : Ids) (y : Content) (r note : List ℕ) (is : IsContent y) where
   none_of_none [] e m = refl
   none_of_none (x ∷ es) e m = absurd (omega arith)
 
-  pub again_at : (es : List Body) (m : ℕ) → 0 < length es → all_late m es ≡ is_again seen y.ops r note es m
-  again_at es m h = ap (λ b. b && all_late m es) (sym (lt-ltb 0 (length es) h))
+  pub again_at : (es : List Body) (m : ℕ) → 0 < length es → all_found m es ≡ is_again seen y.ops r note es m
+  again_at es m h = ap (λ b. b && all_found m es) (sym (lt-ltb 0 (length es) h))
+
+-- the greatest number fits 32 bits
+pub greatest_fits : (r : List ℕ) (y : Content) → IsContent y → greatest r y.seen ≤ 4294967295
+greatest_fits r y is =
+    up_to (greatest r y.seen) (λ some.
+    let fits = (is.are_ids (id_at r (greatest r y.seen)) (contains-items y.seen (id_at r (greatest r y.seen)) ∙ greatest_there r (set.items y.seen) some)).fits in
+    omega (arith, fits))
+  where
+    up_to : (a : ℕ) → (0 < a → a ≤ 4294967295) → a ≤ 4294967295
+    up_to zero h = omega arith
+    up_to (suc a) h = h (omega arith)
+
+-- ---- numbers in a list of operations
+
+-- an operation of the list has the number
+abbrev pub HasNumber : List ℕ → List Op → ℕ → Type 0
+HasNumber r os m = (o : Op) × (has os o ≡ true) × (o.id ≡ id_at r m)
+
+-- each number that passes a test is at most this one, or an operation of the list has it
+abbrev pub Covers : List ℕ → (ℕ → Bool) → ℕ → List Op → Type 0
+Covers r t last os = (m : ℕ) → t m ≡ true → (m ≤ last) ⊎ HasNumber r os m
+
+pub all_covered : (seen : Ids) (y : Content) (r note : List ℕ) (es : List Body) (os : List Op) → IsContent y → os ≡ set.items y.ops
+    → Covers r (is_again seen y.ops r note es) 0 os
+all_covered seen y r note [] os is e m h = absurd (true≢false (sym h))
+all_covered seen y r note (b ∷ es) os is e m h =
+    let first = first_found seen y r note is m b es (and_parts (nat_lt 0 (length (b ∷ es))) (all_found seen y r note is m (b ∷ es)) h).1 in
+    let o : Op = record { id = id_at r m; body = b; note = note } in
+    inr (o, subst (λ l. has l o ≡ true) (sym e) (sym (contains-items y.ops o) ∙ first), refl)
+
+-- the first operation of the list is looked at
+pub covers_more : (r : List ℕ) (t : ℕ → Bool) (last new : ℕ) (os more : List Op) (o : Op) → os ≡ o ∷ more → last ≤ new
+    → (is_own r o.id ≡ true → t o.id.count ≡ true → o.id.count ≤ new) → Covers r t last os → Covers r t new more
+covers_more r t last new os more o e grows here covers m h = elim (covers m h) [
+  | inl b ↦ inl (omega (arith, b, grows))
+  | inr p ↦ elim (op_cases p.0 o more (subst (λ l. has l p.0 ≡ true) e p.1)) [
+    | inl same ↦
+        let at : o.id ≡ id_at r m = ap (λ (q : Op). q.id) (sym same) ∙ p.2 in
+        let own : is_own r o.id ≡ true = subst (λ i. is_own r i ≡ true) (sym at) (replica_itself r) in
+        let count : o.id.count ≡ m = ap (λ (i : Id). i.count) at in
+        inl (subst (λ n. n ≤ new) count (here own (subst (λ n. t n ≡ true) (sym count) h)))
+    | inr b ↦ inr (p.0, b, p.2)
+  ]
+]
+
+-- no operation is left
+pub covers_all : (r : List ℕ) (t : ℕ → Bool) (last m : ℕ) (os : List Op) → length os ≡ 0 → Covers r t last os → t m ≡ true → m ≤ last
+covers_all r t last m [] e covers h = elim (covers m h) [ inl b ↦ b | inr p ↦ absurd (true≢false (sym p.1)) ]
+covers_all r t last m (o ∷ os) e covers h = absurd (omega arith)
 
 -- ---- an operation of a register
 

@@ -7,7 +7,7 @@ use Rattle.std.specs.Char.{is_ascii_digit, digit_value}
 use Rattle.std.specs.Str.Parse.{AllDigits}
 use Rattle.std.proofs.lemmas.Str.Parse.{digit_from_value}
 use Rattle.std.proofs.lemmas.List.{take_at, drop_at, append_assoc}
-use Rattle.std.proofs.lemmas.Fmt.{decimal_injective, decimal_is_IsNumeral}
+use Rattle.std.proofs.lemmas.Fmt.{decimal_injective, decimal_is_IsNumeral, length-decimal-le}
 use Rattle.std.proofs.lemmas.Option.{same_Some}
 use Rattle.uuid.specs.Text.{hyphenated_text, lower, parsed}
 use Rattle.uuid.proofs.RoundTrips.{parses_hyphenated}
@@ -102,3 +102,19 @@ same_head g h a b ig ih e =
     let first = same_line g.last h.last (line_text g.stood ++ a) (line_text h.stood ++ b) ig.last_fits ih.last_fits lines in
     let second = same_line g.stood h.stood a b ig.stood_fits ih.stood_fits first.1 in
     ((λ k. record { replica = uuid k; last = first.0 k; stood = second.0 k }), second.1)
+
+-- a number below 2 ^ 32 has at most ten digits
+ten_digits : (n : ℕ) → n < 2 ^ 32 → length (decimal n) ≤ 10
+ten_digits n h = length-decimal-le 10 n (omega arith) (omega (arith, h)) (wide n h)
+
+-- the two lines have at most 59 bytes
+pub head_short : (h : Head) → IsHead h → length (head_text h) ≤ 59
+head_short h is =
+    let uuid = uuid_length h.replica in
+    let last = ten_digits h.last is.last_fits in
+    let stood = ten_digits h.stood is.stood_fits in
+    let one = length-append (decimal h.last) (10 ∷ []) in
+    let two = length-append (decimal h.stood) (10 ∷ []) in
+    let lines = length-append (line_text h.last) (line_text h.stood) in
+    let whole = length-append (hyphenated_text lower h.replica) (58 ∷ (line_text h.last ++ line_text h.stood)) in
+    omega (arith, uuid, last, stood, one, two, lines, whole)

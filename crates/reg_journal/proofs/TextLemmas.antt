@@ -1,12 +1,17 @@
 -- A text is one office file, and an office file has one text.
-use Rattle.std.proofs.Common.{◌≡◌, ℕ, ◌<◌, List, ◌++◌, length, refl, sym, ap, ◌∙◌, ◌+◌, subst, arith, length-append}
+use Rattle.std.proofs.Common.{◌≡◌, ℕ, ◌<◌, List, ◌++◌, length, take, drop, get_or, refl, sym, ap, ◌∙◌, ◌+◌, ◌-◌, subst, arith, length-append}
+use Rattle.std.specs.Prelude.{codes}
+use Rattle.std.proofs.lemmas.Bool.Decides.{nat_tests}
+use Rattle.std.proofs.lemmas.List.{append_assoc}
+use Rattle.std.proofs.Math.Seq.{take-append-add}
+use Rattle.uuid.specs.Text.{by_index, hex_digit, lower, nibble}
 use Rattle.reg_op.specs.Contents.{Content}
 use Rattle.reg_file.specs.Files.{Holds, IsTooLarge, most}
 use Rattle.reg_file.proofs.HoldLemmas.{one_content, one_file}
 use Rattle.reg_journal.specs.declared.head.Head.{Head}
 use Rattle.reg_journal.specs.Journal.{Journal, IsOffice}
-use Rattle.reg_journal.specs.Text.{head_text, head_of, IsHead, IsTextOf, IsOfficeTooLarge, HoldsOffice}
-use Rattle.reg_journal.proofs.LineLemmas.{same_head}
+use Rattle.reg_journal.specs.Text.{head_text, head_of, IsHead, IsTextOf, IsOfficeTooLarge, BeginsOffice, HoldsOffice}
+use Rattle.reg_journal.proofs.LineLemmas.{same_head, head_short}
 
 pub head_is : (f : Journal) → IsOffice f → IsHead (head_of f)
 head_is f is =
@@ -53,3 +58,32 @@ pub same_made : (text file : List ℕ) (h : Head) (f : Journal) (made : Content)
 same_made text file h f made e is holds k =
     let same = same_lines text file h f e is k in
     one_content file made f.made holds (subst (λ b. Holds b f.made) (sym same.1) (file_holds text f k))
+
+-- the first 64 bytes of an office file, with any bytes after it, are its lines and the first bytes of a register
+pub office_begins : (text rest : List ℕ) (f : Journal) → HoldsOffice text f → BeginsOffice (codes "CRSR") (take 64 (text ++ rest))
+office_begins text rest f h =
+    let lines : List ℕ = head_text (head_of f) in
+    let front : List ℕ = lines ++ codes "CRSR" in
+    let more : List ℕ = drop 4 h.text_is.file in
+    let starts : h.text_is.file ≡ codes "CRSR" ++ more = h.text_is.is_file.whole ∙ ap (λ (t : List ℕ). codes "CRSR" ++ t) (ap (λ (t : List ℕ). drop 4 t) (sym h.text_is.is_file.whole)) in
+    let whole : text ++ rest ≡ front ++ (more ++ rest) =
+    ap (λ (t : List ℕ). t ++ rest) (h.text_is.whole ∙ ap (λ (t : List ℕ). lines ++ t) starts ∙ sym (append_assoc lines (codes "CRSR") more)) ∙ append_assoc front more rest in
+    let left : ℕ = 64 - length front in
+    let room : length front + left ≡ 64 = omega (arith, length-append lines (codes "CRSR"), head_short (head_of f) (head_is f h.office)) in (
+      head_of f,
+      take left (more ++ rest),
+      head_is f h.office,
+      subst (λ (n : ℕ). take n (text ++ rest) ≡ front ++ take left (more ++ rest)) room (ap (λ (t : List ℕ). take (length front + left) t) whole ∙ take-append-add front (more ++ rest) left)
+          ∙ append_assoc lines (codes "CRSR") (take left (more ++ rest)),
+    )
+
+-- no digit of a UUID is the first letter of a register's file
+no_digit : (d : ℕ) → hex_digit lower d ≡ 67 → ⊥
+no_digit d h = grind (arith, nat_tests)
+
+-- a register's file does not begin so
+pub register_is_none : (file text : List ℕ) → take 4 text ≡ codes "CRSR" → BeginsOffice file text → ⊥
+unfolding by_index
+register_is_none file text is (h, rest, fits, e) =
+    let front : take 4 (head_text h ++ (file ++ rest)) ≡ codes "CRSR" = subst (λ (t : List ℕ). take 4 t ≡ codes "CRSR") e is in
+    no_digit (nibble h.replica 0) (ap (λ (t : List ℕ). get_or t 0 0) front)

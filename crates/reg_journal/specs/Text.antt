@@ -39,6 +39,10 @@ pub record HoldsOffice (text : List ℕ) (f : Journal) : Type 0 where
   pub text_is : IsTextOf f text
   pub short : length text ≤ most
 
+-- the text begins with the two lines of an office file, and then with these bytes
+abbrev pub BeginsOffice : List ℕ → List ℕ → Type 0
+BeginsOffice file text = (h : Head) × (rest : List ℕ) × IsHead h × (text ≡ head_text h ++ (file ++ rest))
+
 -- its text has too many bytes
 abbrev pub IsOfficeTooLarge : Journal → Type 0
 IsOfficeTooLarge f = (text : List ℕ) × IsTextOf f text × (most < length text)

@@ -3,7 +3,7 @@
 ghost use Rattle.std.specs.Prelude.{◌≡◌, ◌++◌, ℕ, List, IfSome, IfNone, IsTrue, OnOk, ◌↔◌};
 ghost use Rattle.uuid.specs.Text.{hyphenated_text, lower};
 ghost use Rattle.reg_journal.specs.declared.head.Head.{Head as Lines};
-ghost use Rattle.reg_journal.specs.Text.{head_text, IsHead, line_text};
+ghost use Rattle.reg_journal.specs.Text.{head_text, BeginsOffice, IsHead, line_text};
 
 use crate::numeral::line_of;
 use crate::office_file::bytes_fit;
@@ -50,6 +50,16 @@ pub fn read_head(text: &[u8]) -> Option<(Head, &[u8])>
         stood,
     };
     Some((head, rest))
+}
+
+/// Whether a text begins as an office file does: with its two lines, and then with these bytes.
+pub fn begins_office(text: &[u8], file: &[u8]) -> bool
+    ensures { IsTrue result ↔ BeginsOffice file.now text.now }
+{
+    match read_head(text) {
+        Some((_, rest)) => rest.starts_with(file),
+        None => false,
+    }
 }
 
 // The UUID that the text spells in small letters.

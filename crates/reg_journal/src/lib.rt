@@ -14,5 +14,6 @@ mod reading;
 mod writing;
 
 pub use fault::{AdmitFault, OpenFault};
+pub use head::begins_office;
 pub use office_file::OfficeFile;
 pub use reading::{read_office, read_office_bytes};

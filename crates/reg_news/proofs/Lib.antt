@@ -1,3 +1,4 @@
 mod KeyLemmas
 mod RisenLemmas
 mod TellingLemmas
+mod RevivedLemmas

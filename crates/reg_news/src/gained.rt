@@ -2,8 +2,10 @@
 
 mod came;
 mod hidden;
+mod revived;
 mod risen;
 mod said;
 
 pub use hidden::{Hidden, hidden_in};
+pub use revived::{Revived, revived_in};
 pub use risen::Risen;

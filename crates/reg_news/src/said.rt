@@ -140,7 +140,7 @@ fn shown(text: &Text) -> &str {
 }
 
 // Writes the first characters of a text.
-fn write_cut<W: fmt::Write>(f: &mut fmt::Formatter<W>, text: &str) -> fmt::Result {
+pub(crate) fn write_cut<W: fmt::Write>(f: &mut fmt::Formatter<W>, text: &str) -> fmt::Result {
     for char in text.chars().take(SHOWN) {
         f.write_char(if is_hidden(char) { '?' } else { char })?;
     }

@@ -23,6 +23,5 @@ mod page;
 mod table;
 mod writing;
 
-pub use crs_sense::{RULES, Rule};
 pub use engine::{Page, run_page};
 pub use page::print_page;

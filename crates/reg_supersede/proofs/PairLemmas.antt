@@ -14,14 +14,15 @@ use Rattle.reg_op.specs.Lists.{has}
 use Rattle.reg_op.specs.Operations.{Op, Ops, one, kept, replaces, replaces_body}
 use Rattle.reg_op.specs.declared.operation.OpBody.{OpBody as Body}
 use Rattle.reg_op.specs.declared.operation.OpBody.TheVariants.{Enter, Supersede, Retire}
-use Rattle.reg_op.specs.Contents.{Content}
-use Rattle.reg_op.specs.Kept.{first_dropped}
+use Rattle.reg_op.specs.Contents.{Content, IsContent}
+use Rattle.reg_op.specs.Kept.{first_dropped, superseding}
 use Rattle.reg_op.specs.Status.{enters, retires, is_replaced_by, is_enter, is_retirement, is_supersession}
 use Rattle.reg_op.proofs.OpLemmas.{op_total, op_exact, is_same_exact, is_same_back, replaces_irreflexive}
 use Rattle.reg_op.proofs.FiniteLemmas.{any-union, member_from_any}
 use Rattle.reg_op.proofs.ContentLemmas.{kept-union_right}
 use Rattle.reg_op.proofs.OneLemmas.{any-from_list}
 use Rattle.reg_op.proofs.ClashLemmas.{find_none}
+use Rattle.reg_op.proofs.KeptLemmas.{kept_supersession}
 use Rattle.reg_op.proofs.StatusLemmas.{enters-kept, retires-kept, replaced_by-kept}
 use Rattle.reg_state.specs.Runs.{id_at}
 use Rattle.reg_office.specs.Making.{greatest, numbered, objection, objections, with_op}
@@ -47,6 +48,22 @@ is_off e o = is_retirement e o.body
 
 abbrev is_in : Id → Op → Bool
 is_in e o = is_same e o.id && is_enter o.body
+
+-- ---- a content keeps no supersession of a retired entry
+
+stands_under : (x : Content) → IsContent x → (i : Id) (b : Body) (note : List ℕ) (e m : Id) → contains x.ops (record { id = i; body = b; note = note }) ≡ true → is_supersession e (is_same m) b ≡ true
+    → retires x.ops e ≡ false
+stands_under x is i (Enter text) note e m h s = absurd (true≢false (sym s))
+stands_under x is i (Retire f) note e m h s = absurd (true≢false (sym s))
+stands_under x is i (Supersede old newer) note e m h s =
+    let same : e ≡ old = is_same_exact e old (and_parts (is_same e old) (is_same m newer) s).0 in
+    let least = (kept_supersession x.ops i old newer note).0 (subst (λ (t : Ops). contains t (superseding i old newer note) ≡ true) (sym is.is_kept) h) in
+    subst (λ (j : Id). retires x.ops j ≡ false) (sym same) least.stands
+
+pub stands_superseded : (x : Content) → IsContent x → (e m : Id) → any (supersession e m) x.ops ≡ true → retires x.ops e ≡ false
+stands_superseded x is e m h =
+    let it = member_from_any op_total op_exact (supersession e m) x.ops h in
+    stands_under x is it.0.id it.0.body it.0.note e m it.1 it.2
 
 -- ---- properties of numbered supersessions
 
@@ -97,46 +114,40 @@ module _ (x : Content) (r note : List ℕ) (bs : List Body) (are : AreSupersessi
       ∙ (λ k. not (off_is e k) && (any-with (supersession e m) x.ops (ops_of x r note bs) ∙ ap (λ b. any (supersession e m) x.ops || b) (pairs_are r note _ bs e m)) k)
 
   -- whether a pair is there after the effects
-  pub there_is : (p : Pair) → is_there here p ≡ (enters x.ops p.old && (not (retires x.ops p.old) && (any (supersession p.old p.newer) x.ops || has_pair bs p.old p.newer)))
-  there_is p = λ k. entered p.old k && replaced p.old p.newer k
+  pub there_is : (p : Pair) → is_there here p ≡ (not (retires x.ops p.old) && (any (supersession p.old p.newer) x.ops || has_pair bs p.old p.newer))
+  there_is p = replaced p.old p.newer
 
-  pub not_entered : (p : Pair) → enters x.ops p.old ≡ false → is_there here p ≡ false
-  not_entered p e = there_is p ∙ ap (λ b. b && (not (retires x.ops p.old) && (any (supersession p.old p.newer) x.ops || has_pair bs p.old p.newer))) e
+  pub there_now : (p : Pair) → retires x.ops p.old ≡ false → is_there here p ≡ (any (supersession p.old p.newer) x.ops || has_pair bs p.old p.newer)
+  there_now p f = there_is p ∙ (λ k. not (f k) && (any (supersession p.old p.newer) x.ops || has_pair bs p.old p.newer))
 
-  pub off_already : (p : Pair) → retires x.ops p.old ≡ true → is_there here p ≡ false
-  off_already p e = there_is p ∙ (λ k. enters x.ops p.old && (not (e k) && (any (supersession p.old p.newer) x.ops || has_pair bs p.old p.newer))) ∙ and-false (enters x.ops p.old)
-
-  pub there_now : (p : Pair) → enters x.ops p.old ≡ true → retires x.ops p.old ≡ false → is_there here p ≡ (any (supersession p.old p.newer) x.ops || has_pair bs p.old p.newer)
-  there_now p e f = there_is p ∙ (λ k. e k && (not (f k) && (any (supersession p.old p.newer) x.ops || has_pair bs p.old p.newer)))
+  pub there_never : (p : Pair) → any (supersession p.old p.newer) x.ops ≡ false → has_pair bs p.old p.newer ≡ false → is_there here p ≡ false
+  there_never p e f = there_is p ∙ (λ k. not (retires x.ops p.old) && (e k || f k)) ∙ and-false (not (retires x.ops p.old))
 
   -- a pair that is there stays there
   pub still_there : (p : Pair) → is_there x.ops p ≡ true → is_there here p ≡ true
   still_there p h =
-      let a = and_parts (enters x.ops p.old) (is_replaced_by x.ops p.old p.newer) h in
-      let b = and_parts (not (retires x.ops p.old)) (any (supersession p.old p.newer) x.ops) a.1 in
-      there_now p a.0 (not-true (retires x.ops p.old) b.0) ∙ or_left (any (supersession p.old p.newer) x.ops) (has_pair bs p.old p.newer) b.1
+      let b = and_parts (not (retires x.ops p.old)) (any (supersession p.old p.newer) x.ops) h in
+      there_now p (not-true (retires x.ops p.old) b.0) ∙ or_left (any (supersession p.old p.newer) x.ops) (has_pair bs p.old p.newer) b.1
 
-and_free : (a r y h g : Bool) → (a && (not r && (y || h))) ≡ false → g ≡ false → (a && (not r && (y || (h || g)))) ≡ false
-and_free false r y h g p q = refl
-and_free true true y h g p q = refl
-and_free true false true h g p q = p
-and_free true false false true g p q = p
-and_free true false false false g p q = q
+  -- a content keeps no supersession of a retired entry
+  pub there_before : IsContent x → (p : Pair) → any (supersession p.old p.newer) x.ops ≡ true → is_there here p ≡ true
+  there_before is p h = there_now p (stands_superseded x is p.old p.newer h) ∙ or_left (any (supersession p.old p.newer) x.ops) (has_pair bs p.old p.newer) h
 
-pub last_off : (old newer : Id) (a b same r q p : Bool) → (a && p) ≡ false → chain old newer a b same r q p ≡ chain old newer a b same r q false
-last_off old newer false b same r q p h = refl
-last_off old newer true b same r q p h = ap (chain old newer true b same r q) h
+and_free : (r y h g : Bool) → (not r && (y || h)) ≡ false → g ≡ false → (not r && (y || (h || g))) ≡ false
+and_free true y h g p q = refl
+and_free false true h g p q = p
+and_free false false true g p q = p
+and_free false false false g p q = q
 
 -- a pair that is not there after the effects `bs`, nor one of the effects `cs`, has after both the fault that it has before
 module _ (x : Content) (r note : List ℕ) (bs cs : List Body) (are : AreSupersessions bs) (both : AreSupersessions (bs ++ cs)) (p : Pair) where
   pub fresh_fault : is_there (after x r note bs).ops p ≡ false → has_pair cs p.old p.newer ≡ false → objection (after x r note (bs ++ cs)).ops (Supersede p.old p.newer) ≡ pair_fault x.ops p
   fresh_fault free none =
-      let off : (enters x.ops p.old && is_replaced_by (after x r note (bs ++ cs)).ops p.old p.newer) ≡ false =
-      ap (λ b. enters x.ops p.old && b) (replaced x r note (bs ++ cs) both p.old p.newer ∙ ap (λ b. not (retires x.ops p.old) && (any (supersession p.old p.newer) x.ops || b)) (list_any-append (is_supersession p.old (is_same p.newer)) bs cs))
-      ∙ and_free (enters x.ops p.old) (retires x.ops p.old) (any (supersession p.old p.newer) x.ops) (has_pair bs p.old p.newer) (has_pair cs p.old p.newer) (sym (there_is x r note bs are p) ∙ free) none in
-      (λ k. chain p.old p.newer (entered x r note (bs ++ cs) both p.old k) (entered x r note (bs ++ cs) both p.newer k) (is_same p.old p.newer) (retired x r note (bs ++ cs) both p.old k)
-      (retired x r note (bs ++ cs) both p.newer k) (is_replaced_by (after x r note (bs ++ cs)).ops p.old p.newer))
-      ∙ last_off p.old p.newer (enters x.ops p.old) (enters x.ops p.newer) (is_same p.old p.newer) (retires x.ops p.old) (retires x.ops p.newer) _ off
+      let off : is_replaced_by (after x r note (bs ++ cs)).ops p.old p.newer ≡ false =
+      replaced x r note (bs ++ cs) both p.old p.newer ∙ ap (λ b. not (retires x.ops p.old) && (any (supersession p.old p.newer) x.ops || b)) (list_any-append (is_supersession p.old (is_same p.newer)) bs cs)
+      ∙ and_free (retires x.ops p.old) (any (supersession p.old p.newer) x.ops) (has_pair bs p.old p.newer) (has_pair cs p.old p.newer) (sym (there_is x r note bs are p) ∙ free) none in
+      λ k. chain p.old p.newer (entered x r note (bs ++ cs) both p.old k) (entered x r note (bs ++ cs) both p.newer k) (is_same p.old p.newer) (retired x r note (bs ++ cs) both p.old k)
+      (retired x r note (bs ++ cs) both p.newer k) (off k)
 
 -- ---- supersessions without objections have distinct pairs
 
@@ -300,4 +311,12 @@ module _ (r : List ℕ) (note : List ℕ) where
 pub made_there : (x : Content) (r note : List ℕ) (bs : List Body) → AreSupersessions bs → objections x (ops_of x r note bs) ≡ None → (p : Pair) → has_pair bs p.old p.newer ≡ true → is_there (after x r note bs).ops p ≡ true
 made_there x r note bs are none p h =
     let may = may_pair r note (greatest r x.seen + 1) bs x are none p.old p.newer h in
-    there_now x r note bs are p may.0 may.1 ∙ or_right (any (supersession p.old p.newer) x.ops) (has_pair bs p.old p.newer) h
+    there_now x r note bs are p may.1 ∙ or_right (any (supersession p.old p.newer) x.ops) (has_pair bs p.old p.newer) h
+
+-- a pair that the content has not is there after the effects, if it was made
+pub there_made : (x : Content) (r note : List ℕ) (bs : List Body) → AreSupersessions bs → objections x (ops_of x r note bs) ≡ None → (p : Pair) → any (supersession p.old p.newer) x.ops ≡ false
+    → is_there (after x r note bs).ops p ≡ has_pair bs p.old p.newer
+there_made x r note bs are none p lacks = elim (has_pair bs p.old p.newer) as (λ b. has_pair bs p.old p.newer ≡ b → is_there (after x r note bs).ops p ≡ b) [
+  | true ↦ λ h. made_there x r note bs are none p h
+  | false ↦ λ h. there_never x r note bs are p lacks h
+] refl

@@ -4,7 +4,7 @@ use Rattle.std.specs.List.{list_any}
 use Rattle.reg_op.specs.Ids.{Id, is_same}
 use Rattle.reg_op.specs.Rows.{Row, rows}
 use Rattle.reg_op.specs.Operations.{Ops}
-use Rattle.reg_op.specs.Status.{enters, is_replaced_by}
+use Rattle.reg_op.specs.Status.{is_replaced_by}
 use Rattle.reg_op.specs.declared.operation.OpBody.{OpBody as Body}
 use Rattle.reg_op.specs.declared.operation.OpBody.TheVariants.{Supersede}
 use Rattle.reg_op.specs.Contents.{Content}
@@ -48,9 +48,9 @@ pairs_of (old ∷ olds) newer = map (pair_of old) newer ++ pairs_of olds newer
 abbrev pub is_pair : Pair → Pair → Bool
 is_pair p q = is_same p.old q.old && is_same p.newer q.newer
 
--- the old entry, which is not retired, is superseded by the newer one already
+-- the old entry, which is not retired, is superseded by the newer one already. Either may be awaited
 abbrev pub is_there : Ops → Pair → Bool
-is_there ops p = enters ops p.old && is_replaced_by ops p.old p.newer
+is_there ops p = is_replaced_by ops p.old p.newer
 
 -- the pairs that are not there yet, each once (`before`: earlier ones of the line)
 abbrev pub lacking : Ops → List Pair → List Pair → List Pair

@@ -38,18 +38,14 @@ fn pair_fault(register: &Register, pair: Pair) -> Option<OfficeFault>
     None
 }
 
-// Whether the old entry is superseded by the newer one already, in the register or by an earlier line.
+// Whether the old entry is superseded by the newer one already, in the register or by an earlier line. A retired entry is superseded by
+// none.
 fn is_there(options: &ListOptions<'_>, effects: &ListEffects, pair: Pair) -> bool
     requires made { CanMake (task_of options.now) options.now.register.now effects.now.bodies.items }
     requires pairs { ArePairs effects.now.pairs effects.now.bodies.items }
     ensures { result ≡ is_there (after (task_of options.now) options.now.register.now effects.now.bodies.items).ops pair }
 {
-    if !is_entered(options.register, pair.old) {
-        return false;
-    }
-    if is_retired(options.register, pair.old) {
-        return false;
-    }
+    let _content = options.register.seen();
     options.register.is_superseded_by(pair.old, pair.newer) || effects.pairs.contains(&pair)
 }
 

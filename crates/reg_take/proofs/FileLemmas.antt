@@ -1,8 +1,9 @@
 -- Reading the next of some files, after those before it are read.
-use Rattle.std.proofs.Common.{◌≡◌, ◌∷◌, ◌++◌, [], Bool, true, false, List, ℕ, ◌+◌, ◌<◌, zero, suc, length, map, take, drop, get_or, slice_set, refl, ap, sym, subst, arith, inl, inr}
+use Rattle.std.proofs.Common.{◌≡◌, ◌∷◌, ◌++◌, [], Bool, true, false, List, ℕ, ◌+◌, ◌<◌, zero, suc, length, map, take, drop, get_or, slice_set, refl, ap, sym, subst, ◌∙◌, append_assoc, append-nil, arith, inl, inr}
 use Rattle.std.proofs.lemmas.Bool.{both_ways}
 use Rattle.std.proofs.Math.Numerals.{suc-eq-add-one}
 use Rattle.byte_io.specs.Device.{SourceState}
+use Rattle.reg_op.specs.Ids.{Id}
 use Rattle.reg_file.specs.Parts.{FindsPart, IsPartReadFromFault}
 use Rattle.reg_file.specs.declared.fault.ReadFileFault.{ReadFileFault}
 use Rattle.reg_file.specs.declared.fault.ReadFileFault.TheVariants as reading
@@ -12,7 +13,7 @@ use Rattle.reg_engine.specs.declared.fault.CliFault.TheVariants as cli
 use Rattle.reg_take.specs.declared.options.TakeOptions.{TakeOptions}
 use Rattle.reg_take.specs.declared.files.Arrival.{Arrival}
 use Rattle.reg_take.specs.declared.files.Arrival.TheVariants as arrival
-use Rattle.reg_take.specs.Files.{FileState, file_state, fault_in, brought, judged, IsScreened, IsUnread, HasFault, IsArrival, IsLast, AreArrivals, StopsAt, IsStopped}
+use Rattle.reg_take.specs.Files.{FileState, file_state, fault_in, brought, judged, IsScreened, IsUnread, HasFault, IsArrival, IsLast, AreArrivals, IsRetiredIn, AreRetired, StopsAt, IsStopped}
 
 abbrev head_of : {A : Type 0} → A → List A → A
 head_of d [] = d
@@ -90,6 +91,25 @@ module _ {S : Type 0} (st : S → FileState) (how : TakeOptions) where
   arrived_next was now number i k o s gave bs a within size front back at is pushed =
       subst (λ j. AreArrivals how number (take j (map st was)) (take j (map st (slice_set now i s))) bs) (suc-eq-add-one i)
       (subst (λ ks. AreArrivals how number (take (suc i) (map st was)) (take (suc i) (map st (slice_set now i s))) ks) (sym pushed) (arrived_suc was now number i k o s gave a within size front back at is))
+
+  retired_suc : (was now : List S) (number i k : ℕ) (o s : S) (ids more : List Id) → i < length was → length now ≡ length was
+      → AreRetired how number (take i (map st was)) (take i (map st now)) ids → drop i (map st now) ≡ drop i (map st was) → k ≡ number + i → IsRetiredIn how k (st (get_or now i o)) (st s) more
+      → AreRetired how number (take (suc i) (map st was)) (take (suc i) (map st (slice_set now i s))) (ids ++ more)
+  retired_suc was [] number i k o s ids more within size front back at is = absurd (omega arith)
+  retired_suc [] (n ∷ ns) number i k o s ids more within size front back at is = absurd (omega arith)
+  retired_suc (w ∷ ws) (n ∷ ns) number zero k o s ids more within size front back at is =
+      let same : k ≡ number = omega (arith, at) in
+      (more, [], subst (λ j. IsRetiredIn how j (st w) (st s) more) same (subst (λ j. IsRetiredIn how k j (st s) more) (first w n ws ns back) is), refl, ap (λ (l : List Id). l ++ more) front ∙ sym (append-nil more))
+  retired_suc (w ∷ ws) (n ∷ ns) number (suc i) k o s ids more within size (these, rest, one, others, all) back at is =
+      (these, rest ++ more, one, retired_suc ws ns (number + 1) i k o s rest more (omega arith) (omega arith) others back (omega (arith, at)) is, ap (λ (l : List Id). l ++ more) all ∙ append_assoc these rest more)
+
+  -- the entries that are retired in one file more
+  pub retired_next : (was now : List S) (number i k : ℕ) (o s : S) (ids all more : List Id) → i < length was → length now ≡ length was
+      → AreRetired how number (take i (map st was)) (take i (map st now)) ids → drop i (map st now) ≡ drop i (map st was) → k ≡ number + i → IsRetiredIn how k (st (get_or now i o)) (st s) more
+      → all ≡ ids ++ more → AreRetired how number (take (i + 1) (map st was)) (take (i + 1) (map st (slice_set now i s))) all
+  retired_next was now number i k o s ids all more within size front back at is pushed =
+      subst (λ j. AreRetired how number (take j (map st was)) (take j (map st (slice_set now i s))) all) (suc-eq-add-one i)
+      (subst (λ ks. AreRetired how number (take (suc i) (map st was)) (take (suc i) (map st (slice_set now i s))) ks) (sym pushed) (retired_suc was now number i k o s ids more within size front back at is))
 
   stops_at : (was now : List S) (number i k : ℕ) (o s : S) (gave : List Arrival) (f : CliFault) → how.keep_going ≡ false → i < length was → length now ≡ length was
       → AreArrivals how number (take i (map st was)) (take i (map st now)) gave → drop i (map st now) ≡ drop i (map st was) → k ≡ number + i → HasFault k (st (get_or now i o)) (st s) f

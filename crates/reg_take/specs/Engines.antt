@@ -4,7 +4,10 @@ use Rattle.byte_io.specs.Device.{SinkState}
 use Rattle.byte_io.specs.Whole.{WritesAll}
 use Rattle.reg_op.specs.Contents.{Content}
 use Rattle.reg_query.specs.DiffLines.{IsDiff}
+use Rattle.reg_file.specs.Files.{IsTooLarge}
+use Rattle.reg_engine.specs.declared.fault.OutFault.TheVariants as out
 use Rattle.reg_engine.specs.declared.fault.CliFault.{CliFault}
+use Rattle.reg_engine.specs.declared.fault.CliFault.TheVariants as cli
 use Rattle.reg_engine.specs.Fault.{is_after}
 use Rattle.reg_engine.specs.Store.{Around, Admission, Admits, AreCut, WritesIf, IsKeptIn}
 use Rattle.reg_take.specs.declared.options.TakeOptions.{TakeOptions}
@@ -12,7 +15,7 @@ use Rattle.reg_take.specs.declared.taking.LeftOut.{LeftOut}
 use Rattle.reg_take.specs.declared.effect.TakeEffect.{TakeEffect}
 use Rattle.reg_take.specs.declared.files.Arrival.{Arrival}
 use Rattle.reg_take.specs.declared.loading.Loaded.{Loaded}
-use Rattle.reg_take.specs.Files.{FileState, AreArrivals, IsStopped}
+use Rattle.reg_take.specs.Files.{FileState, AreArrivals, AreRetired, IsStopped}
 use Rattle.reg_take.specs.Take.{Takes, CannotJoin, IsBarred}
 
 -- the register that a store gives, and what is written for the register that replaces it
@@ -26,13 +29,17 @@ pub record Way : Type 1 where
   -- not all of that, for this reason
   pub failed : Content → Content → List ℕ → CliFault → Type 0
 
--- a store that is only read
-abbrev pub only_read : Around → SinkState → SinkState → Way
-only_read a before after = record {
+-- no file can have it; or memory ran out
+abbrev pub IsUnfit : Content → CliFault → Type 0
+IsUnfit y f = ((f ≡ cli.Out out.TooLarge) × IsTooLarge y) ⊎ (f ≡ cli.Memory)
+
+-- a store that is only read, to see what would be kept: the first content, or one that a file can have
+abbrev pub only_tried : Around → SinkState → SinkState → Way
+only_tried a before after = record {
   came = λ x. a.came x × (after ≡ before);
   none = λ f. a.none f × (after ≡ before);
-  gave = λ x y lines. a.came x × WritesAll lines before after;
-  failed = λ x y lines f. a.came x × AreCut lines before after f;
+  gave = λ x y lines. a.came x × ((y ≡ x) ⊎ (¬ (IsTooLarge y))) × WritesAll lines before after;
+  failed = λ x y lines f. a.came x × (((y ≢ x) × IsUnfit y f × (after ≡ before)) ⊎ AreCut lines before after f);
 }
 
 -- the store has the second content, whether or not a power cut can undo that; if it equals the first one, the store is unchanged
@@ -48,9 +55,10 @@ kept_if_changed a before after = record {
   failed = λ x y lines f. ((y ≢ x) × a.unleft x y f × WritesIf (is_after f) lines before after) ⊎ (Leaves (IsKeptIn a) a x y × AreCut lines before after f);
 }
 
--- the store gave this register and admits another one, to which files are joined; and they gave this
+-- the store gave this register and admits another one, to which files are joined; and they gave this, and these are retired in them
 abbrev pub IsLoaded : Around → Admission → TakeOptions → ℕ → List FileState → List FileState → Loaded → Type 0
 IsLoaded a admission how next old new l = a.came l.register × AreArrivals how next old new l.arrivals.items × Admits admission l.register l.base
+    × AreRetired how next old new l.retired.items
 
 -- the files were all read, and the store does not admit the register
 abbrev pub IsUnadmitted : Admission → TakeOptions → ℕ → List FileState → List FileState → Content → CliFault → Type 0
@@ -62,10 +70,10 @@ IsUnloaded a admission how next old new f = (a.none f × (new ≡ old))
     ⊎ ((x : Content) × a.came x × (IsStopped how next old new f ⊎ IsUnadmitted admission how next old new x f))
 
 -- the first register was read, and admitted; the files were joined to it, except those that are left out, which gave the second one;
--- and the rows that changed were written
+-- and the rows that changed were written. Where offices are named, the entries that are retired in the files are told
 abbrev pub IsTaken : Way → Admission → TakeOptions → ℕ → List FileState → List FileState → TakeEffect → Type 0
 IsTaken w admission how next old new t = (z : Content) × (lines : List ℕ) × Admits admission t.before z × Takes how next old new z t.after t.left.items
-    × IsDiff t.before t.after lines × w.gave t.before t.after lines
+    × IsDiff t.before t.after lines × w.gave t.before t.after lines × AreRetired how next old new t.retired.items
 
 -- the files were read, and cannot be joined to the admitted register
 abbrev pub IsUnjoinable : Admission → TakeOptions → ℕ → List FileState → List FileState → Content → CliFault → Type 0

@@ -1,7 +1,12 @@
 -- Files of registers and pieces that are opened in turn: what each gave.
-use Rattle.std.specs.Prelude.{◌≡◌, ◌⊎◌, ◌+◌, ◌∷◌, [], Bool, true, false, IsTrue, List, ℕ, Option, Some, None, option_map}
+use Rattle.std.specs.Prelude.{◌≡◌, ◌⊎◌, ◌+◌, ◌++◌, ◌∷◌, [], Bool, true, false, IsTrue, List, ℕ, Option, Some, None, option_map}
+use Rattle.std.specs.List.{flat_map}
 use Rattle.byte_io.specs.Device.{SourceState}
+use Rattle.reg_op.specs.Set as set
 use Rattle.reg_op.specs.Ids.{Id}
+use Rattle.reg_op.specs.Operations.{Op}
+use Rattle.reg_op.specs.declared.operation.OpBody.{OpBody as Body}
+use Rattle.reg_op.specs.declared.operation.OpBody.TheVariants.{Enter, Supersede, Retire}
 use Rattle.reg_op.specs.Contents.{Content}
 use Rattle.reg_op.specs.Pieces.{part_of}
 use Rattle.reg_state.specs.Walks.{IsLeastOf}
@@ -120,6 +125,34 @@ AreArrivals how number [] (n ∷ ns) gave = ⊥
 AreArrivals how number (o ∷ os) [] gave = ⊥
 AreArrivals how number (o ∷ os) (n ∷ ns) [] = ⊥
 AreArrivals how number (o ∷ os) (n ∷ ns) (a ∷ gave) = IsArrival how number o n a × AreArrivals how (number + 1) os ns gave
+
+-- ---- what is not joined of files, where offices are named
+
+-- the entry that an operation retires
+abbrev pub retired_in_body : Body → List Id
+retired_in_body (Enter text) = []
+retired_in_body (Supersede old newer) = []
+retired_in_body (Retire entry) = entry ∷ []
+
+abbrev pub retired_by : List Op → List Id
+retired_by os = flat_map (λ (o : Op). retired_in_body o.body) os
+
+-- the entries that are retired in a part, where offices are named
+abbrev pub retired_in : List (List ℕ) → Part → List Id
+retired_in [] p = []
+retired_in (u ∷ us) p = retired_by (set.items (content_of p).ops)
+
+-- a file gave a part in which these entries are retired; or it was not read, and the command continues
+abbrev pub IsRetiredIn : TakeOptions → ℕ → FileState → FileState → List Id → Type 0
+IsRetiredIn how number old new ids = ((p : Part) × FindsPart old.source new.source p × (ids ≡ retired_in how.offices.items p))
+    ⊎ (IsTrue how.keep_going × ((k : ℕ) × (f : InputFault) × HasFault number old new (cli.File k f)) × (ids ≡ []))
+
+-- these are retired in the files, in their order: the first file has this number, and the others one more each
+abbrev pub AreRetired : TakeOptions → ℕ → List FileState → List FileState → List Id → Type 0
+AreRetired how number [] [] ids = ids ≡ []
+AreRetired how number [] (n ∷ ns) ids = ⊥
+AreRetired how number (o ∷ os) [] ids = ⊥
+AreRetired how number (o ∷ os) (n ∷ ns) ids = (these : List Id) × (rest : List Id) × IsRetiredIn how number o n these × AreRetired how (number + 1) os ns rest × (ids ≡ these ++ rest)
 
 -- one has this fault; each before it gave the file of a part, and those after it were not read
 abbrev pub StopsAt : ℕ → CliFault → List FileState → List FileState → Type 0

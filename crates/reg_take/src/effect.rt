@@ -1,6 +1,7 @@
 //! What a take did.
 
 use crate::taking::LeftOut;
+use reg_op::OpId;
 use reg_state::Register;
 
 /// What a take did.
@@ -12,4 +13,7 @@ pub struct TakeEffect {
     pub after: Register,
     /// The files that are left out.
     pub left: Vec<LeftOut>,
+    /// Where offices are named: the entries that are retired in the files, in their order. What the named offices had said of such an
+    /// entry may be in the file no more, since its retirement makes that redundant.
+    pub retired: Vec<OpId>,
 }

@@ -1,16 +1,20 @@
 //! The command `take`, on a register in a file or on a shelf.
 
-ghost use Rattle.std.specs.Prelude.{◌≡◌, ◌↔◌, map, IsTrue, IfOk, OnOk, IfErr};
+ghost use Rattle.std.specs.Prelude.{◌≡◌, ◌↔◌, ◌⊎◌, map, false, IsTrue, IfOk, OnOk, IfErr};
 ghost use Rattle.reg_op.specs.Contents.{Content};
+ghost use Rattle.byte_io.specs.Whole.{WritesAll};
+ghost use Rattle.reg_engine.specs.Store.{AreCut};
+ghost use Rattle.reg_file.specs.Files.{IsTooLarge};
 ghost use Rattle.reg_take.specs.Files.{file_state};
-ghost use Rattle.reg_take.specs.Engines.{only_read, kept_if_changed, IsTaken, IsUntaken};
+ghost use Rattle.reg_take.specs.Engines.{IsUnfit, only_tried, kept_if_changed, IsTaken, IsUntaken};
 
 use crate::effect::TakeEffect;
 use crate::loading::{Loaded, load_all};
 use crate::options::TakeOptions;
 use crate::ready::{Ready, make_ready};
 use byte_io::{LateSource, Sink};
-use reg_engine::{CliFault, Keep, Store, keep_and_tell, tell};
+use reg_engine::{CliFault, Keep, OutFault, Store, keep_and_tell, tell};
+use reg_file::{RegisterChunks, WriteFileFault};
 use reg_state::Register;
 use std::alloc::Global;
 
@@ -41,10 +45,47 @@ fn keep_changed<T: Keep, K: Sink>(
     }
 }
 
+// A file can have the register.
+fn fits(alloc: Global, register: &Register) -> Result<(), CliFault>
+    ensures fits { IfOk result (λ u. ¬ (IsTooLarge register.now)) }
+    ensures fault { IfErr result (IsUnfit register.now) }
+{
+    match RegisterChunks::new(alloc, register) {
+        Ok(_) => Ok(()),
+        Err(WriteFileFault::TooLarge) => Err(CliFault::Out(OutFault::TooLarge)),
+        Err(_) => Err(CliFault::Memory),
+    }
+}
+
+// Writes the lines, if the register is the one that was loaded or a file can have it.
+fn tell_fitting<K: Sink>(
+    alloc: Global,
+    register: &Register,
+    is_same: bool,
+    lines: &[u8],
+    sink: &mut K,
+) -> Result<(), CliFault>
+    ensures fits { OnOk result (IsTrue is_same ⊎ (¬ (IsTooLarge register.now))) }
+    ensures written { OnOk result (WritesAll lines.now (K.state sink.old) (K.state sink.new)) }
+    ensures fault { IfErr result (λ f. ((is_same ≡ false) × IsUnfit register.now f × (K.state sink.new ≡ K.state sink.old)) ⊎ AreCut lines.now (K.state sink.old) (K.state sink.new) f) }
+{
+    if !is_same {
+        match fits(alloc, register) {
+            Ok(()) => {}
+            Err(fault) => return Err(fault),
+        }
+    }
+    match tell(lines, sink) {
+        Ok(()) => Ok(()),
+        Err(fault) => Err(fault),
+    }
+}
+
 /// Loads the register, reads the files, and joins the register or piece of each to the register that the store admits; keeps the result if it differs
 /// from the loaded one, and then writes the rows that changed. Returns the register before and after, and the files that are left
 /// out: with `keep_going` those that cannot be read, that have forged numbers of the office, that clash, or whose basis is not held.
-/// Otherwise the first such file ends the command. Where offices are named, their operations alone are joined.
+/// Otherwise the first such file ends the command. Where offices are named, their operations alone are joined, and the entries that are
+/// retired in the files are returned.
 pub fn run_take<T: Keep, S: LateSource, K: Sink>(
     alloc: Global,
     store: &mut T,
@@ -61,6 +102,7 @@ pub fn run_take<T: Keep, S: LateSource, K: Sink>(
     let Loaded {
         register: before,
         arrivals,
+        retired,
         base,
     } = match load_all(alloc, store, files, options) {
         Ok(loaded) => loaded,
@@ -80,12 +122,13 @@ pub fn run_take<T: Keep, S: LateSource, K: Sink>(
             before,
             after,
             left,
+            retired,
         }),
         Err(fault) => Err(fault),
     }
 }
 
-/// The same, but nothing is kept: the rows show what would change.
+/// The same, but nothing is kept: the rows show what would change. A register that no file can have is `Out(TooLarge)` here, too.
 pub fn try_take<T: Store, S: LateSource, K: Sink>(
     alloc: Global,
     store: &mut T,
@@ -94,14 +137,15 @@ pub fn try_take<T: Store, S: LateSource, K: Sink>(
     sink: &mut K,
 ) -> Result<TakeEffect, CliFault>
     ensures same { T.same store.old store.new }
-    ensures taken { IfOk result (λ t. IsTaken (only_read (T.around store.old store.new) (K.state sink.old) (K.state sink.new)) (T.admission store.old) options.now (T.next store.old)
+    ensures taken { IfOk result (λ t. IsTaken (only_tried (T.around store.old store.new) (K.state sink.old) (K.state sink.new)) (T.admission store.old) options.now (T.next store.old)
         (map (λ s. file_state (S.state s) (S.shut s)) files.old) (map (λ s. file_state (S.state s) (S.shut s)) files.new) t) }
-    ensures fault { IfErr result (IsUntaken (only_read (T.around store.old store.new) (K.state sink.old) (K.state sink.new)) (T.admission store.old) options.now (T.next store.old)
+    ensures fault { IfErr result (IsUntaken (only_tried (T.around store.old store.new) (K.state sink.old) (K.state sink.new)) (T.admission store.old) options.now (T.next store.old)
         (map (λ s. file_state (S.state s) (S.shut s)) files.old) (map (λ s. file_state (S.state s) (S.shut s)) files.new)) }
 {
     let Loaded {
         register: before,
         arrivals,
+        retired,
         base,
     } = match load_all(alloc, store, files, options) {
         Ok(loaded) => loaded,
@@ -110,17 +154,18 @@ pub fn try_take<T: Store, S: LateSource, K: Sink>(
     let Ready {
         register: after,
         lines,
-        is_same: _,
+        is_same,
         left,
     } = match make_ready(alloc, &before, &base, &arrivals, options.keep_going) {
         Ok(ready) => ready,
         Err(fault) => return Err(fault),
     };
-    match tell(&lines, sink) {
+    match tell_fitting(alloc, &after, is_same, &lines, sink) {
         Ok(()) => Ok(TakeEffect {
             before,
             after,
             left,
+            retired,
         }),
         Err(fault) => Err(fault),
     }

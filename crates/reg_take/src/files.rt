@@ -1,11 +1,12 @@
 //! Files of registers and pieces, which are opened, read and closed in turn.
 
-ghost use Rattle.std.specs.Prelude.{◌≡◌, map, option_map, false, IfOk, IfErr};
+ghost use Rattle.std.specs.Prelude.{◌≡◌, ◌++◌, ◌∷◌, [], map, option_map, false, IfOk, OnOk, IfErr};
 ghost use Rattle.reg_file.specs.Parts.{FindsPart};
 ghost use Rattle.reg_journal.specs.Standing.{is_forged, Leasts};
-ghost use Rattle.reg_take.specs.Files.{file_state, fault_in, brought, arrived, content_of, judged, IsScreened, IsUnread, IsArrival, IsLast, AreArrivals, IsStopped};
+ghost use Rattle.reg_take.specs.Files.{file_state, fault_in, brought, arrived, content_of, retired_in, judged, IsScreened, IsUnread, IsArrival, IsLast, AreArrivals, IsRetiredIn, AreRetired, IsStopped};
 
 use crate::options::TakeOptions;
+use crate::retired::retired_in;
 use byte_io::LateSource;
 use reg_engine::{CliFault, InputFault};
 use reg_file::{Part, ReadFileFault, read_part_beside};
@@ -25,6 +26,20 @@ pub enum Arrival {
     Unread { number: usize, fault: InputFault },
     /// Somebody else gave this number in the name of the office.
     Forged(OpId),
+}
+
+/// What a file gave, and the entries that are retired in it, if offices are named.
+#[derive(Drop)]
+pub struct FileGift {
+    pub arrival: Arrival,
+    pub retired: Vec<OpId>,
+}
+
+/// What each file gave, and the entries that are retired in them, if offices are named.
+#[derive(Drop)]
+pub struct FileGifts {
+    pub all: Vec<Arrival>,
+    pub retired: Vec<OpId>,
 }
 
 // The fault of the file with this number, which may have failed to open.
@@ -109,40 +124,57 @@ fn screened(alloc: Global, office: Option<&OfficeFile>, part: Part) -> Result<Ar
     }
 }
 
-// What arrives of the part that a file gave.
-fn arrival_in(alloc: Global, options: &TakeOptions<'_>, part: Part) -> Result<Arrival, AllocError>
-    ensures { IfOk result (IsScreened (judged options.now) (brought options.now.offices.items part)) }
+// What arrives of the part that a file gave, and the entries that are retired in it.
+fn gift_in(alloc: Global, options: &TakeOptions<'_>, part: Part) -> Result<FileGift, AllocError>
+    ensures arrival { IfOk result (λ g. IsScreened (judged options.now) (brought options.now.offices.items part) g.arrival) }
+    ensures retired { IfOk result (λ g. g.retired.items ≡ retired_in options.now.offices.items part) }
 {
+    let retired = retired_in(alloc, &options.offices, &part)?;
     let joined = brought(alloc, &options.offices, part)?;
     let arrival = screened(alloc, options.office, joined)?;
-    Ok(arrival)
+    Ok(FileGift { arrival, retired })
 }
 
 // What the file with this number gave. Its fault ends the command, unless the command keeps going.
-fn arrival_of<S: LateSource>(
+fn gift_of<S: LateSource>(
     alloc: Global,
     known: &Register,
     number: usize,
     options: &TakeOptions<'_>,
     file: &mut S,
-) -> Result<Arrival, CliFault>
-    ensures arrived { IfOk result (IsArrival options.now number (file_state (S.state file.old) (S.shut file.old)) (file_state (S.state file.new) (S.shut file.new))) }
+) -> Result<FileGift, CliFault>
+    ensures arrived { IfOk result (λ g. IsArrival options.now number (file_state (S.state file.old) (S.shut file.old)) (file_state (S.state file.new) (S.shut file.new)) g.arrival) }
+    ensures retired { IfOk result (λ g. IsRetiredIn options.now number (file_state (S.state file.old) (S.shut file.old)) (file_state (S.state file.new) (S.shut file.new)) g.retired.items) }
     ensures fault { IfErr result (IsLast options.now number (file_state (S.state file.old) (S.shut file.old)) (file_state (S.state file.new) (S.shut file.new))) }
     ensures closed { S.held file.new ≡ false }
 {
     match read_next(alloc, known, number, file) {
-        Ok(part) => match arrival_in(alloc, options, part) {
-            Ok(arrival) => Ok(arrival),
+        Ok(part) => match gift_in(alloc, options, part) {
+            Ok(gift) => Ok(gift),
             Err(_) => Err(CliFault::Memory),
         },
         Err(CliFault::File { number, fault }) => {
             if options.keep_going {
-                return Ok(Arrival::Unread { number, fault });
+                return Ok(FileGift {
+                    arrival: Arrival::Unread { number, fault },
+                    retired: Vec::new(alloc),
+                });
             }
             Err(CliFault::File { number, fault })
         }
         Err(_) => Err(CliFault::Memory),
     }
+}
+
+// Appends what the next file gave.
+fn push_gift(arrivals: &mut FileGifts, gift: FileGift) -> Result<(), AllocError>
+    ensures arrival { OnOk result (arrivals.new.all.items ≡ arrivals.old.all.items ++ gift.arrival ∷ []) }
+    ensures retired { OnOk result (arrivals.new.retired.items ≡ arrivals.old.retired.items ++ gift.retired.items) }
+{
+    let FileGift { arrival, retired } = gift;
+    arrivals.retired.extend_from_slice(&retired)?;
+    arrivals.all.push(arrival)?;
+    Ok(())
 }
 
 /// Reads all files in order, numbered from this number on. Unless the command keeps going, the first fault ends it.
@@ -152,24 +184,29 @@ pub fn arrivals<S: LateSource>(
     next: usize,
     options: &TakeOptions<'_>,
     files: &mut [S],
-) -> Result<Vec<Arrival>, CliFault>
-    ensures arrived { IfOk result (λ all. AreArrivals options.now next
-        (map (λ s. file_state (S.state s) (S.shut s)) files.old) (map (λ s. file_state (S.state s) (S.shut s)) files.new) all.items) }
+) -> Result<FileGifts, CliFault>
+    ensures arrived { IfOk result (λ a. AreArrivals options.now next
+        (map (λ s. file_state (S.state s) (S.shut s)) files.old) (map (λ s. file_state (S.state s) (S.shut s)) files.new) a.all.items) }
+    ensures retired { IfOk result (λ a. AreRetired options.now next
+        (map (λ s. file_state (S.state s) (S.shut s)) files.old) (map (λ s. file_state (S.state s) (S.shut s)) files.new) a.retired.items) }
     ensures fault { IfErr result (IsStopped options.now next
         (map (λ s. file_state (S.state s) (S.shut s)) files.old) (map (λ s. file_state (S.state s) (S.shut s)) files.new)) }
 {
-    let mut all = Vec::new(alloc);
+    let mut arrivals = FileGifts {
+        all: Vec::new(alloc),
+        retired: Vec::new(alloc),
+    };
     for i in 0..files.len() {
         let Some(number) = next.checked_add(i) else {
             return Err(CliFault::Memory);
         };
-        let arrival = match arrival_of(alloc, known, number, options, &mut files[i]) {
-            Ok(arrival) => arrival,
+        let gift = match gift_of(alloc, known, number, options, &mut files[i]) {
+            Ok(gift) => gift,
             Err(fault) => return Err(fault),
         };
-        if let Err(_) = all.push(arrival) {
+        if let Err(_) = push_gift(&mut arrivals, gift) {
             return Err(CliFault::Memory);
         }
     }
-    Ok(all)
+    Ok(arrivals)
 }

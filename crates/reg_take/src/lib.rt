@@ -13,6 +13,7 @@ pub mod merge;
 mod options;
 pub mod own;
 mod ready;
+mod retired;
 mod same;
 mod taking;
 

@@ -6,18 +6,21 @@ ghost use Rattle.reg_take.specs.Files.{file_state};
 ghost use Rattle.reg_take.specs.Take.{IsBarred};
 ghost use Rattle.reg_take.specs.Engines.{IsLoaded, IsUnloaded};
 
-use crate::files::{Arrival, arrivals};
+use crate::files::{Arrival, FileGifts, arrivals};
 use crate::options::TakeOptions;
 use byte_io::LateSource;
 use reg_engine::{CliFault, Store};
+use reg_op::OpId;
 use reg_state::Register;
 use std::alloc::Global;
 
-/// The register that a store gave, what the files gave, and the register to which they are joined.
+/// The register that a store gave, what the files gave, the entries that are retired in them if offices are named, and the register to
+/// which the files are joined.
 #[derive(Drop)]
 pub struct Loaded {
     pub register: Register,
     pub arrivals: Vec<Arrival>,
+    pub retired: Vec<OpId>,
     pub base: Register,
 }
 
@@ -53,7 +56,10 @@ pub fn load_all<T: Store, S: LateSource>(
         Ok(register) => register,
         Err(fault) => return Err(fault),
     };
-    let arrivals = match arrivals(alloc, &register, next, options, files) {
+    let FileGifts {
+        all: arrivals,
+        retired,
+    } = match arrivals(alloc, &register, next, options, files) {
         Ok(arrivals) => arrivals,
         Err(fault) => return Err(fault),
     };
@@ -61,6 +67,7 @@ pub fn load_all<T: Store, S: LateSource>(
         Ok(base) => Ok(Loaded {
             register,
             arrivals,
+            retired,
             base,
         }),
         Err(fault) => Err(fault),

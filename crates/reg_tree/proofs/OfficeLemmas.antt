@@ -1,10 +1,18 @@
 -- What a list of operations by id has of some offices, and what a join with it gains.
-use Rattle.std.proofs.Common.{◌≡◌, ◌⊎◌, ℕ, true, ◌&&◌, ◌||◌, List, [], ◌++◌, map, take, drop, None, Result, Ok, Err, sym, ap, ◌∙◌, subst, inl, inr}
-use Rattle.std.proofs.lemmas.Bool.{or_cases, and_parts, and_from}
+use Rattle.std.proofs.Common.{◌≡◌, ◌⊎◌, ℕ, length, get_or, arith, true, false, ◌&&◌, ◌||◌, List, ◌++◌, map, take, drop, None, Result, Ok, Err, sym, ap, ◌∙◌, subst, inl, inr}
+use Rattle.std.proofs.lemmas.Bool.{or_cases, and_parts, and_from, false_from_ne_true}
+use Rattle.reg_op.proofs.PointLemmas.{lt_or_ge}
+use Rattle.std.proofs.lemmas.Cmp.{nat_list_cmp_total}
+use Rattle.std.proofs.lemmas.List.Sorted.{searchable_from_sorted, list_any-IsPermutation}
 use Rattle.std.proofs.lemmas.List.{take-append-drop, map-append}
-use Rattle.std.proofs.lemmas.List.Folds.{list_any-append}
-use Rattle.std.specs.Prelude.{IfOk}
-use Rattle.std.specs.Ordering.{eq_by_cmp}
+use Rattle.std.proofs.lemmas.List.Folds.{list_any-append, list_any_at, list_any_none}
+use Rattle.std.specs.Prelude.{IfOk, is_ok}
+use Rattle.std.specs.List.{filter}
+use Rattle.std.specs.List.Sorted.{IsSorted, IsPermutation, IsBinarySearchResult, IsSearchInRange}
+use Rattle.std.specs.Cmp.{Equal-is, tied_itself}
+use Rattle.std.specs.declared.cmp.Ordering.{Ordering}
+use Rattle.std.specs.declared.cmp.Ordering.TheVariants.{Less, Equal, Greater}
+use Rattle.std.specs.Ordering.{eq_by_cmp, is_eq}
 use Rattle.reg_op.specs.Set as set
 use Rattle.reg_op.specs.Set.{contains, union, contains-from_list, contains-retain, contains-union, same_set}
 use Rattle.reg_op.specs.Ids.{Id, Ids, id_cmp, is_same}
@@ -12,7 +20,8 @@ use Rattle.reg_op.specs.Operations.{Op, Ops, op_cmp, ids}
 use Rattle.reg_op.specs.Contents.{Content, IsContent, state, merged}
 use Rattle.reg_op.specs.Kept.{first_dropped}
 use Rattle.reg_op.specs.Lists.{ById, has, content_at}
-use Rattle.reg_op.proofs.OpLemmas.{op_total, op_exact, id_total, id_exact, is_same_exact}
+use Rattle.reg_state.specs.Runs.{replica_cmp}
+use Rattle.reg_op.proofs.OpLemmas.{bytes_exact, op_total, op_exact, id_total, id_exact, is_same_exact}
 use Rattle.reg_op.proofs.SetLemmas.{items-retain}
 use Rattle.reg_op.proofs.FiniteLemmas.{member_from_any}
 use Rattle.reg_op.proofs.ClashLemmas.{items_are}
@@ -20,7 +29,30 @@ use Rattle.reg_op.proofs.ContentLemmas.{contains-ids, contains_op-union, ids_has
 use Rattle.reg_op.proofs.PieceLemmas.{kept_part}
 use Rattle.reg_op.proofs.DroppedLemmas.{dropped_none}
 use Rattle.reg_state.proofs.MergeLemmas.{ById-filter}
-use Rattle.reg_tree.specs.Offices.{is_theirs, listed, theirs, from_offices}
+use Rattle.reg_tree.specs.Offices.{is_of, is_theirs, listed, theirs, from_offices}
+
+-- ---- offices in order
+
+-- a binary search finds an office exactly if some office of the list is it
+pub theirs_found : (us : List (List ℕ)) (u : List ℕ) (i : Id) (r : Result ℕ ℕ) → i.replica ≡ u → IsSorted replica_cmp us → IsSearchInRange r (length us) → IsBinarySearchResult (λ y. replica_cmp y u) us r → is_ok r ≡ is_theirs us i
+theirs_found us u i (Ok at) e up bound found =
+    let here : get_or us at u ≡ u = bytes_exact _ u (found u) in
+    sym (list_any_at (is_of i) us at u bound (ap is_eq ((λ j. replica_cmp (e j) (here j)) ∙ tied_itself nat_list_cmp_total u)))
+theirs_found us u i (Err p) e up bound point =
+    let parts = point (searchable_from_sorted nat_list_cmp_total (λ (y : List ℕ). y) us u up) in
+    sym (list_any_none (is_of i) us (λ k d lt. elim (lt_or_ge k p) [
+      | inl below ↦ other (get_or us k d) Less (parts.0 k d (omega arith) below) (λ h. cc)
+      | inr above ↦ other (get_or us k d) Greater (parts.1 k d above lt) (λ h. cc)
+    ]))
+  where
+    other : (v : List ℕ) (o : Ordering) → replica_cmp v u ≡ o → (o ≡ Equal → ⊥) → is_of i v ≡ false
+    other v o is differs = false_from_ne_true (is_of i v) (λ h. differs (sym is ∙ ap (λ t. replica_cmp t u) (sym (bytes_exact i.replica v ((Equal-is (replica_cmp i.replica v)).0 h)) ∙ e) ∙ tied_itself nat_list_cmp_total u))
+
+-- the order of the offices does not matter
+pub listed_same : (us vs : List (List ℕ)) (os : List Op) → IsPermutation us vs → listed vs os ≡ listed us os
+listed_same us vs os p = λ j. filter (λ o. sym (list_any-IsPermutation (is_of o.id) us vs p) j) os
+
+-- ---- lists and their halves
 
 items_back : (s : Ops) → set.from_list {R = op_cmp} (set.items s) ≡ s
 items_back s = same_set op_total op_exact _ _ (λ q. contains-from_list op_total (set.items s) q ∙ sym (set.contains-items s q))

@@ -6,4 +6,4 @@ mod piece;
 mod theirs;
 
 pub use piece::register_in;
-pub use theirs::{from_piece, from_register, is_theirs};
+pub use theirs::{from_piece, from_register};

@@ -8,4 +8,4 @@ mod short;
 
 pub use bytes::{HiddenCharacter, hidden_at};
 pub use set::{is_hidden, is_hidden_code};
-pub use short::push_short;
+pub use short::{push_ellipsis, push_short, shortened};

@@ -1,14 +1,14 @@
 //! The commands `export` and `graph`.
 use crate::handing::into::export_into;
 use crate::handing::left::{Exported, left_out, room_for_left};
+use byte_io::Writing;
 use clap::ArgMatches;
 use cli_open::ending::{NotDone, ended};
-use cli_open::engines::CliFault;
-use cli_open::engines::operations::OpId;
-use cli_open::engines::streams::Writing;
 use cli_open::{names_again, open_register, print_of, wanted, word};
 use reg_commands::Export;
+use reg_engine::CliFault;
 use reg_export::{Choice, Format, Graph, LeftOutOfFolder, run_handed};
+use reg_op::OpId;
 use std::io;
 
 const NOT_HANDED: &str =

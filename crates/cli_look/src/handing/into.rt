@@ -3,8 +3,8 @@ use crate::handing::left::{Exported, left_out, room_for_left};
 use byte_folder::SystemFolder;
 use clap::ArgMatches;
 use cli_open::ending::NotDone;
-use cli_open::engines::CliFault;
 use cli_open::{open_register, word};
+use reg_engine::CliFault;
 use reg_export::{Choice, LeftOutOfFolder, run_into};
 
 /// Opens the register, and puts a folder with a file for each key in place.

@@ -4,9 +4,9 @@ ghost use Rattle.std.specs.Prelude.{◌≡◌, ◌++◌, [], IfOk, IfErr};
 ghost use Rattle.cli_look.specs.LeftKeys.{long_key, taken_key, IsExported};
 
 use cli_open::ending::{Done, NotDone, Outcome};
-use cli_open::engines::CliFault;
-use cli_open::engines::operations::OpId;
+use reg_engine::CliFault;
 use reg_export::LeftOutOfFolder;
+use reg_op::OpId;
 use std::alloc::Global;
 
 /// A key that was left out.

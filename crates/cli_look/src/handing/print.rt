@@ -1,10 +1,11 @@
 //! Commands that print something of a register: an entry, a text, ids, a page.
+use byte_io::Writing;
 use clap::ArgMatches;
-use cli_open::engines::CliFault;
-use cli_open::engines::streams::Writing;
 use cli_open::{entry, names_again, open_register, print_of, word};
+use crs_sense::RULES;
 use reg_commands::{ByWord, Form, OpsReport, PrintOf, Show, ShowOf, Wkt, WktOf};
-use reg_page::{Page, RULES, run_page};
+use reg_engine::CliFault;
+use reg_page::{Page, run_page};
 use std::io;
 
 /// The title of a page without one.

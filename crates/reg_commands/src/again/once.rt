@@ -13,7 +13,7 @@ use std::alloc::Global;
 use uuid::Uuid;
 
 /// A command of the office with this office file. If the office made its effects before, and the register that was loaded has not
-/// got them, it makes nothing: the register, joined with all that the office made, has them.
+/// got them, or would have a text twice, it makes nothing: the register, joined with all that the office made, has them.
 #[derive(Drop)]
 pub struct Once<'a, C> {
     pub command: C,

@@ -4,20 +4,20 @@ ghost use Rattle.std.specs.Prelude.{◌≡◌, length, IfOk};
 ghost use Rattle.std.specs.List.{count_by};
 ghost use Rattle.reg_op.specs.Set as set;
 ghost use Rattle.reg_op.specs.Rows.{awaited};
-ghost use Rattle.reg_news.specs.Hidden.{is_of_another, retires_of_others, IsLength, IsHidden};
+ghost use Rattle.reg_news.specs.Hidden.{is_of_another, was_retired, retires_of_others, IsLength, IsHidden};
 
 use crate::gained::came::came;
 use crate::gained::risen::{Risen, offices_risen};
 use reg_file::{WriteFileFault, write_bytes};
 use reg_op::{Op, OpBody, OpId};
-use reg_report::awaited;
+use reg_report::{awaited, is_entered, is_retired};
 use reg_state::Register;
 use std::alloc::{AllocError, Global};
 
 /// What a register gained that no row shows, and that cannot be undone.
 #[derive(Drop)]
 pub struct Hidden {
-    /// Retirements that came, by offices that had not entered the entries.
+    /// Entries whose retirements came, by offices that had not entered them. An entry that was retired before is none of them.
     pub retired: usize,
     /// Awaited ids before.
     pub awaited_before: usize,
@@ -38,21 +38,28 @@ fn is_of_another(op: &Op, entry: OpId) -> bool
     !op.id().replica().cmp(&entry.replica()).is_eq()
 }
 
-// Whether the operation retires an entry of another office.
-fn retires_of_others(op: &Op) -> bool
-    ensures { result ≡ retires_of_others op.now }
+// Whether the entry was retired before.
+fn was_retired(old: &Register, entry: OpId) -> bool
+    ensures { result ≡ was_retired old.now.ops entry }
+{
+    is_entered(old, entry) && is_retired(old, entry)
+}
+
+// Whether the operation retires an entry of another office that was not retired before.
+fn retires_of_others(old: &Register, op: &Op) -> bool
+    ensures { result ≡ retires_of_others old.now.ops op.now }
 {
     match op.body() {
         OpBody::Enter(_) => false,
         OpBody::Supersede { .. } => false,
-        OpBody::Retire { entry } => is_of_another(op, *entry),
+        OpBody::Retire { entry } => is_of_another(op, *entry) && !was_retired(old, *entry),
     }
 }
 
-fn count_retired(ops: &[Op]) -> usize
-    ensures { result ≡ count_by retires_of_others ops.now }
+fn count_retired(old: &Register, ops: &[Op]) -> usize
+    ensures { result ≡ count_by (retires_of_others old.now.ops) ops.now }
 {
-    ops.iter().filter(|op| retires_of_others(op)).count()
+    ops.iter().filter(|op| retires_of_others(old, op)).count()
 }
 
 fn count_awaited(alloc: Global, register: &Register) -> Result<usize, AllocError>
@@ -84,7 +91,7 @@ pub fn hidden_in(alloc: Global, old: &Register, new: &Register) -> Result<Hidden
     let bytes_before = length_of(alloc, old)?;
     let bytes = length_of(alloc, new)?;
     Ok(Hidden {
-        retired: count_retired(came.ops().as_slice()),
+        retired: count_retired(old, came.ops().as_slice()),
         awaited_before,
         awaited,
         risen,

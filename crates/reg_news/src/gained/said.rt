@@ -1,10 +1,13 @@
 //! What a register gained that no row shows, in words.
 
 use crate::gained::hidden::Hidden;
+use crate::gained::revived::Revived;
 use crate::gained::risen::Risen;
-use std::fmt;
+use crate::said::write_cut;
+use reg_report::{Row, key_of};
+use std::{fmt, str};
 
-// The offices that are named; of more, only the number is printed.
+// The offices, and the entries, that are named; of more, only the number is printed.
 const NAMED: usize = 3;
 
 impl fmt::Display for Risen {
@@ -25,6 +28,41 @@ impl fmt::Display for Hidden {
         write_risen(f, &self.risen)?;
         write_bytes(f, self.bytes_before, self.bytes)
     }
+}
+
+/// A line, if there are any entries.
+impl fmt::Display for Revived {
+    fn fmt<W: fmt::Write>(&self, f: &mut fmt::Formatter<W>) -> fmt::Result {
+        let count = self.rows.len();
+        if count == 0 {
+            return Ok(());
+        }
+        let is = if count == 1 {
+            "entry is"
+        } else {
+            "entries are"
+        };
+        write!(f, "{count} {is} retired in a FILE, and not here (")?;
+        for (at, row) in self.rows.iter().take(NAMED).enumerate() {
+            if at > 0 {
+                f.write_str(", ")?;
+            }
+            write_key(f, row)?;
+        }
+        let end = if count > NAMED { ", ..)" } else { ")" };
+        let they = if count == 1 { "it" } else { "they" };
+        writeln!(
+            f,
+            "{end}: {they} may have been superseded; look at the own register of each office that --from names"
+        )
+    }
+}
+
+fn write_key<W: fmt::Write>(f: &mut fmt::Formatter<W>, row: &Row) -> fmt::Result {
+    let key = key_of(row);
+    write_cut(f, str::from_utf8(key.authority).unwrap_or(""))?;
+    f.write_str(":")?;
+    write_cut(f, str::from_utf8(key.code).unwrap_or(""))
 }
 
 fn write_retired<W: fmt::Write>(f: &mut fmt::Formatter<W>, retired: usize) -> fmt::Result {

@@ -1,12 +1,14 @@
 //! The operations that a register or a piece has of some offices, as a register.
 
 ghost use Rattle.std.specs.Prelude.{◌≡◌, ◌++◌, [], ◌∷◌, IfOk, OnOk};
+ghost use Rattle.std.specs.List.Sorted.{IsSorted};
 ghost use Rattle.reg_op.specs.Operations.{op_cmp};
 ghost use Rattle.reg_op.specs.Contents.{state};
 ghost use Rattle.reg_op.specs.Lists.{ById};
 ghost use Rattle.reg_op.specs.Pieces.{part_of};
 ghost use Rattle.reg_op.specs.Set as set;
-ghost use Rattle.reg_tree.specs.Offices.{is_of, is_theirs, listed, theirs, from_offices};
+ghost use Rattle.reg_state.specs.Runs.{replica_cmp};
+ghost use Rattle.reg_tree.specs.Offices.{is_theirs, listed, theirs, from_offices};
 
 use crate::offices::ids::ids_of;
 use reg_op::{Op, OpId};
@@ -14,18 +16,12 @@ use reg_state::{Piece, Register};
 use std::alloc::{AllocError, Global};
 use uuid::Uuid;
 
-// Whether the id is the office's.
-fn is_of(id: OpId, office: &Uuid) -> bool
-    ensures { result ≡ is_of id office.now }
-{
-    id.replica().cmp(office).is_eq()
-}
-
-/// Whether the id is one of these offices'.
-pub fn is_theirs(offices: &[Uuid], id: OpId) -> bool
+// Whether the id is one of these offices', which are in order.
+fn is_theirs(offices: &[Uuid], id: OpId) -> bool
+    requires { IsSorted replica_cmp offices.now }
     ensures { result ≡ is_theirs offices.now id }
 {
-    offices.iter().any(|office| is_of(id, office))
+    offices.binary_search(&id.replica()).is_ok()
 }
 
 // Appends a copy of an operation, if one of the offices made it.
@@ -35,6 +31,7 @@ fn push_theirs(
     op: &Op,
     offices: &[Uuid],
 ) -> Result<(), AllocError>
+    requires { IsSorted replica_cmp offices.now }
     ensures { OnOk result (made.new.items ≡ made.old.items ++ listed offices.now (op.now ∷ [])) }
 {
     if !is_theirs(offices, op.id()) {
@@ -44,8 +41,9 @@ fn push_theirs(
     Ok(())
 }
 
-// Copies of the operations that these offices made, in order.
-fn theirs(alloc: Global, ops: &[Op], offices: &[Uuid]) -> Result<Vec<Op>, AllocError>
+// Copies of the operations that these offices made, in order. The offices are in order too.
+fn theirs_of(alloc: Global, ops: &[Op], offices: &[Uuid]) -> Result<Vec<Op>, AllocError>
+    requires { IsSorted replica_cmp offices.now }
     ensures { IfOk result (λ made. made.items ≡ listed offices.now ops.now) }
 {
     let mut made = Vec::new(alloc);
@@ -54,6 +52,16 @@ fn theirs(alloc: Global, ops: &[Op], offices: &[Uuid]) -> Result<Vec<Op>, AllocE
         push_theirs(alloc, &mut made, op, offices)?;
         rest = others;
     }
+    Ok(made)
+}
+
+// The same, with the offices in any order.
+fn theirs(alloc: Global, ops: &[Op], offices: &[Uuid]) -> Result<Vec<Op>, AllocError>
+    ensures { IfOk result (λ made. made.items ≡ listed offices.now ops.now) }
+{
+    let mut sorted = Vec::from_slice(alloc, offices)?;
+    sorted.sort_unstable();
+    let made = theirs_of(alloc, ops, &sorted)?;
     Ok(made)
 }
 

@@ -2,7 +2,7 @@
 
 use super::{failing, makes_out};
 use byte_out::{InOne, Place, ReplaceFault, replace};
-use byte_place::{CallPlace, NewPlace, WithinPlace};
+use byte_place::{CallPlace, NewPlace};
 use byte_system::MemSystem;
 use std::alloc::{AllocError, Global};
 use std::test::Fail;
@@ -72,37 +72,5 @@ fn a_new_file_is_made_once(rt: HostRuntime) -> Result<(), Fail> {
     let system = MemSystem::new(alloc, 1, Vec::new(alloc), Vec::new(alloc));
     let mut place = NewPlace::new(system, b"out");
     assert!(rt; replace(&mut place, None, b"mine") == Ok(()));
-    Ok(())
-}
-
-// Whether writing "mine" in the place of "old" ends so, and leaves these bytes, where the call of this number fails.
-fn ends_within(
-    alloc: Global,
-    fails: Option<usize>,
-    read: Option<&[u8]>,
-    want: Result<(), ReplaceFault>,
-    left: &[u8],
-) -> Result<bool, AllocError> {
-    let mut acts = Vec::new(alloc);
-    makes_out(alloc, &mut acts)?;
-    let system = MemSystem::new(alloc, 1, acts, failing(alloc, fails)?);
-    let mut place = WithinPlace::new(system, b"out".to_vec(alloc)?);
-    let result = replace(&mut place, read, b"mine");
-    Ok(result == want && place.system().read(b"out") == Some(left))
-}
-
-#[test]
-fn writes_in_place(rt: HostRuntime) -> Result<(), Fail> {
-    let alloc = rt.alloc();
-    assert!(rt; ends_within(alloc, None, Some(b"old"), Ok(()), b"mine")?);
-    assert!(rt; ends_within(alloc, None, None, Ok(()), b"mine")?);
-    let changed = Err(ReplaceFault::Changed);
-    assert!(rt; ends_within(alloc, None, Some(b"new"), changed, b"old")?);
-    let not_opened = Err(ReplaceFault::NotOpened);
-    assert!(rt; ends_within(alloc, Some(1), Some(b"old"), not_opened, b"old")?);
-    let cut = Err(ReplaceFault::WriteFailed(2));
-    assert!(rt; ends_within(alloc, Some(5), Some(b"old"), cut, b"mi")?);
-    let not_sure = Err(ReplaceFault::WriteFailed(4));
-    assert!(rt; ends_within(alloc, Some(6), Some(b"old"), not_sure, b"mine")?);
     Ok(())
 }

@@ -1,7 +1,7 @@
-//! `replace` and `write_within` beside a second process, which acts between their calls.
+//! `replace` beside a second process, which acts between their calls.
 
 use super::{act, failing, makes_out};
-use byte_protocol::{Fault, OverwriteFault, replace, write_within};
+use byte_protocol::{Fault, replace};
 use byte_system::{Act, Does, MemSystem, Mode};
 use std::alloc::{AllocError, Global};
 use std::test::Fail;
@@ -108,35 +108,5 @@ fn replaces_what_was_not_read(rt: HostRuntime) -> Result<(), Fail> {
     let result = replace(&mut system, b"out", b"new", Mode::Usual, None, b"mine");
     assert!(rt; result == Ok(()));
     assert!(rt; system.read(b"out") == Some(b"mine"));
-    Ok(())
-}
-
-// Writes "mine" in the place of "old", where the call of this number fails. Whether that ends so, and leaves these bytes.
-fn overwrites(
-    alloc: Global,
-    second: Second,
-    fails: Option<usize>,
-    want: Result<(), OverwriteFault>,
-    left: &[u8],
-) -> Result<bool, AllocError> {
-    let mut acts = Vec::new(alloc);
-    acts_of(alloc, &mut acts, second)?;
-    let mut system = MemSystem::new(alloc, 1, acts, failing(alloc, fails)?);
-    let result = write_within(&mut system, b"out", Some(b"old"), b"mine");
-    Ok(result == want && system.read(b"out") == Some(left))
-}
-
-#[test]
-fn writes_in_place(rt: HostRuntime) -> Result<(), Fail> {
-    let alloc = rt.alloc();
-    assert!(rt; overwrites(alloc, Second::Nothing, None, Ok(()), b"mine")?);
-    let not_opened = Err(OverwriteFault::NotOpened);
-    assert!(rt; overwrites(alloc, Second::Nothing, Some(1), not_opened, b"old")?);
-    let changed = Err(OverwriteFault::Changed);
-    assert!(rt; overwrites(alloc, Second::WritesToOut(3), None, changed, b"old!")?);
-    let not_emptied = Err(OverwriteFault::NotEmptied);
-    assert!(rt; overwrites(alloc, Second::Nothing, Some(4), not_emptied, b"old")?);
-    let cut = Err(OverwriteFault::NotWritten(2));
-    assert!(rt; overwrites(alloc, Second::Nothing, Some(5), cut, b"mi")?);
     Ok(())
 }

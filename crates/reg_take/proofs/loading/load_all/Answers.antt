@@ -16,7 +16,7 @@ pub returns-in-Err-admitted-clause-fault : goal.returns-in-Err-admitted-clause-f
 returns-in-Err-admitted-clause-fault g c =
     let old = map (λ s. file_state (g.S.Source.state s) (g.S.LateSource.shut s)) c.args.files.now in
     let new = map (λ s. file_state (g.S.Source.state s) (g.S.LateSource.shut s)) c.arrivals.new.files in
-    let gave = c.in-Ok-arrivals.arrivals.items in
+    let gave = c.in-Ok-arrivals.arrivals.all.items in
     inr (
       c.in-Ok.register,
       c.in-Ok.ensures.came,

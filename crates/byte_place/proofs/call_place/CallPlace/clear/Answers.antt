@@ -13,4 +13,4 @@ invariant_of-self g c =
     let old = calls (g.S.System.state p.system) in
     let new = calls (g.S.System.state c.remove_own.new.system) in
     let r : Clears p.beside.items i old new = search rules in
-    record { course = ∥∥₁_map (as_at p.out.items p.beside.items p.taken.bytes p.unread p.at (at.Broken i) old c.in-Broken.is p.course) (λ k. cleared p.out.items p.beside.items p.taken.bytes p.unread i old new k r) }
+    record { course = ∥∥₁_map (as_at p.out.items p.beside.items p.taken.bytes p.found.bytes p.unread p.at (at.Broken i) old c.in-Broken.is p.course) (λ k. cleared p.out.items p.beside.items p.taken.bytes p.found.bytes p.unread i old new k r) }

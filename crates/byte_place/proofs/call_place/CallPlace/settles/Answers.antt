@@ -9,4 +9,4 @@ invariant_of-self g c =
     let p = c.args.self.now in
     let i = c.in-Synced.file in
     let old = calls (g.S.System.state p.system) in
-    record { course = ∥∥₁_map (as_at p.out.items p.beside.items p.taken.bytes p.unread p.at (at.Synced i) old c.in-Synced.is p.course) (λ k. unread p.out.items p.beside.items p.taken.bytes p.unread i old k) }
+    record { course = ∥∥₁_map (as_at p.out.items p.beside.items p.taken.bytes p.found.bytes p.unread p.at (at.Synced i) old c.in-Synced.is p.course) (λ k. unread p.out.items p.beside.items p.taken.bytes p.found.bytes p.unread i old k) }

@@ -17,7 +17,7 @@ invariant_of-self-then-is_err g c =
     let part : mid ≡ Writes i (take c.write.result []) ∷ old = search rules in
     let w : mid ≡ Writes i [] ∷ old = part ∙ ap (λ b. Writes i b ∷ old) (take-nil c.write.result) in
     let e : new ≡ Fails ∷ mid = search rules in
-    record { course = ∥∥₁_map (as_at p.out.items p.beside.items p.taken.bytes p.unread p.at (at.Owned i) old c.in-Owned.is p.course) (λ k. unsynced p.out.items p.beside.items p.taken.bytes p.unread i old mid new k w e) }
+    record { course = ∥∥₁_map (as_at p.out.items p.beside.items p.taken.bytes p.found.bytes p.unread p.at (at.Owned i) old c.in-Owned.is p.course) (λ k. unsynced p.out.items p.beside.items p.taken.bytes p.found.bytes p.unread i old mid new k w e) }
 
 pub invariant_of-self-2 : goal.invariant_of-self-2
 invariant_of-self-2 g c =
@@ -29,4 +29,4 @@ invariant_of-self-2 g c =
     let part : mid ≡ Writes i (take c.write.result []) ∷ old = search rules in
     let w : mid ≡ Writes i [] ∷ old = part ∙ ap (λ b. Writes i b ∷ old) (take-nil c.write.result) in
     let e : new ≡ Syncs i ∷ mid = search rules in
-    record { course = ∥∥₁_map (as_at p.out.items p.beside.items p.taken.bytes p.unread p.at (at.Owned i) old c.in-Owned.is p.course) (λ k. synced p.out.items p.beside.items p.taken.bytes p.unread i old mid new k w e) }
+    record { course = ∥∥₁_map (as_at p.out.items p.beside.items p.taken.bytes p.found.bytes p.unread p.at (at.Owned i) old c.in-Owned.is p.course) (λ k. synced p.out.items p.beside.items p.taken.bytes p.found.bytes p.unread i old mid new k w e) }

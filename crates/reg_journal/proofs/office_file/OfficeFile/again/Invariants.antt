@@ -1,13 +1,16 @@
-use Rattle.std.proofs.Common.{◌≡◌, ◌<◌, ◌≤◌, ◌+◌, false, ℕ, length}
+use Rattle.std.proofs.Common.{◌≡◌, ◌⊎◌, ◌+◌, true, length}
+use Rattle.reg_office.specs.Making.{greatest}
 use Rattle.reg_journal.specs.Again.{is_again}
+use Rattle.reg_journal.proofs.LateLemmas.{Covers}
 use Rattle.reg_journal.proofs.office_file.OfficeFile.again.Given as goal
 
--- no number above this one will do
-abbrev pub invariant-loop-first : goal.invariant-loop-first
-invariant-loop-first l = record {
-  fits : l.first + length l.effects ≤ 4294967296;
-  above : (m : ℕ) → l.first < m → is_again l.seen l.joined.ops l.self.replica l.note l.effects m ≡ false;
+-- the greatest number so far, if there is one, will do; a greater one has its operation among the rest
+abbrev pub invariant-loop-op : goal.invariant-loop-op
+invariant-loop-op l = record {
+  most : l.most + length l.effects ≡ greatest l.self.replica l.joined.seen + 1;
+  good : (l.last ≡ 0) ⊎ (is_again l.seen l.joined.ops l.self.replica l.note l.effects l.last ≡ true);
+  covers : Covers l.self.replica (is_again l.seen l.joined.ops l.self.replica l.note l.effects) l.last l.rest;
 }
 
-abbrev pub decreases-loop-first : goal.decreases-loop-first
-decreases-loop-first l = l.first
+abbrev pub decreases-loop-op : goal.decreases-loop-op
+decreases-loop-op l = length l.rest

@@ -1,8 +1,0 @@
-use Rattle.std.proofs.Common.{◌≡◌}
-use Rattle.byte_place.proofs.waiting.reserve_in.Given as goal
-
-abbrev pub invariant-loop : goal.invariant-loop
-invariant-loop g l = record {
-  out : l.call.out ≡ l.fn.call.out;
-  beside : l.call.beside ≡ l.fn.call.beside;
-}

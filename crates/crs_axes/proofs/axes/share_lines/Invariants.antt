@@ -1,9 +1,0 @@
-use Rattle.std.proofs.Common.{◌≡◌, length}
-use Rattle.crs_axes.specs.Axes.{share_lines}
-use Rattle.crs_axes.proofs.axes.share_lines.Given as goal
-
-abbrev pub invariant-loop-axis : goal.invariant-loop-axis
-invariant-loop-axis l = share_lines l.axes ≡ share_lines l.rest
-
-abbrev pub decreases-loop-axis : goal.decreases-loop-axis
-decreases-loop-axis l = length l.rest

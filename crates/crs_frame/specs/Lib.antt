@@ -1,4 +1,0 @@
-pub mod Accuracy
-pub mod Figure
-pub mod Meridians
-pub mod Prime
