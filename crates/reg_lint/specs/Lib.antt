@@ -10,3 +10,7 @@ pub mod Known
 pub mod Lines
 pub mod Texts
 pub mod Laws
+pub mod EngineLooked
+pub mod EngineLint
+pub mod EngineTexts
+pub mod EngineEntered

@@ -4,6 +4,7 @@
 mod asked;
 mod details;
 mod disputes;
+pub mod engine;
 mod entered;
 mod kept;
 mod keys;

@@ -1,5 +1,5 @@
 -- Each row of the page shows an entry of the register, and the rows are in the order of their keys.
-use Rattle.std.proofs.Common.{◌≡◌, ℕ, ◌+◌, zero, suc, Bool, true, false, All, filter, List, [], ◌∷◌, map, get_or, arith, refl, sym, subst}
+use Rattle.std.proofs.Common.{◌≡◌, ℕ, ◌+◌, zero, suc, Bool, true, false, All, filter, List, [], ◌∷◌, map, get_or, arith, refl, sym, ap, subst}
 use Rattle.std.proofs.lemmas.List.Elements.{All-map, All-filter}
 use Rattle.std.proofs.lemmas.List.Kept.{IsSortedBy-filter}
 use Rattle.std.proofs.lemmas.List.Sorted.{ranks_by}
@@ -18,6 +18,7 @@ use Rattle.crs_sense.specs.declared.rule.Rule.{Rule}
 use Rattle.reg_page.specs.declared.described.Described.{Described}
 use Rattle.reg_page.specs.Codes.{code_cmp}
 use Rattle.reg_page.specs.Descriptions.{IsDescribed, described_cmp}
+use Rattle.reg_page.specs.Kinds.{kind_word}
 use Rattle.reg_page.specs.Page.{is_among, entry_of, rows_of, acts_in, IsShown}
 use Rattle.reg_page.specs.Rows.{ShowsEntry, entry_cmp}
 use Rattle.reg_page.proofs.DescribeLemmas.{described_total}
@@ -40,6 +41,10 @@ module _ (rules : List Rule) (s : Ops) (described : List Described) (os : List O
         crs = d.system.crs;
         spelled = d.system.spelled;
         name = d.system.shows.name;
+        boxes = d.system.shows.boxes;
+        areas = d.system.shows.areas;
+        kind = ap kind_word d.system.shows.kind;
+        standing = refl;
         text = d.system.shows.text;
         questions = d.system.shows.questions;
       }

@@ -6,6 +6,8 @@ use Rattle.std.specs.Cmp.Lexicographic.{slice_cmp}
 use Rattle.crs_part.specs.Slots.{name_of}
 use Rattle.crs_value.specs.declared.crs.Crs.{Crs}
 use Rattle.crs_value.specs.declared.key.Key.{Key}
+use Rattle.crs_value.specs.Kinds.{kind_of}
+use Rattle.crs_value.specs.Usages.{usages_of}
 use Rattle.wkt_crs.specs.Spells.{pretty}
 use Rattle.wkt_crs.specs.Definition.{IsCrsOf, IsKeyIn}
 use Rattle.html_page.specs.Shown as shown
@@ -15,11 +17,15 @@ use Rattle.reg_op.specs.Ids.{Id}
 use Rattle.reg_op.specs.Kept.{entering}
 use Rattle.reg_op.specs.Operations.{Ops}
 use Rattle.reg_op.specs.Set as set
+use Rattle.reg_op.specs.Status.{status}
 use Rattle.reg_op.specs.Text.{printed}
+use Rattle.reg_page.specs.Boxes.{boxes_in}
 use Rattle.reg_page.specs.Codes.{code_cmp}
+use Rattle.reg_page.specs.Kinds.{kind_word, areas_in}
+use Rattle.reg_page.specs.Page.{standing_of}
 
--- the row is that of an entry of the register: it has the key and the name of the reference system that the definition spells, and
--- its indented text, and then what is asked by these rules
+-- the row is that of an entry of the register: it has the key, the name, the boxes, the areas and the kind of the reference system that
+-- the definition spells, the status of the entry, and the indented text, and then what is asked by these rules
 pub record ShowsEntry (rules : List Rule) (s : Ops) (e : shown.Entry) : Type 0 where
   pub id : Id
   pub definition : List ℕ
@@ -32,6 +38,10 @@ pub record ShowsEntry (rules : List Rule) (s : Ops) (e : shown.Entry) : Type 0 w
   pub crs : Crs
   pub spelled : IsCrsOf crs definition
   pub name : e.name ≡ (name_of crs.parts).bytes
+  pub boxes : e.boxes ≡ boxes_in (usages_of crs.parts)
+  pub areas : e.areas ≡ areas_in (usages_of crs.parts)
+  pub kind : e.kind ≡ kind_word (kind_of crs.parts)
+  pub standing : e.standing ≡ standing_of (status s id)
   pub text : e.text ≡ pretty crs
   pub questions : e.questions ≡ questions_of rules crs.parts
 

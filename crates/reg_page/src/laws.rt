@@ -4,10 +4,13 @@ ghost use Rattle.std.specs.Prelude.{◌≡◌, ◌<◌, ◌++◌, ℕ, All, List
 ghost use Rattle.std.specs.List.Sorted.{IsPermutation, IsSorted};
 ghost use Rattle.html_page.specs.Pieces.{html};
 ghost use Rattle.html_page.specs.Places.{Content as BetweenTags, tags, past_all};
+ghost use Rattle.html_page.specs.Read.{read_of};
+ghost use Rattle.html_page.specs.Said.{said};
 ghost use Rattle.html_page.specs.Shape.{shape};
 ghost use Rattle.html_page.specs.Shown.{Entry, Pair, Conflict, Shown};
 ghost use Rattle.html_page.specs.Templates.{page};
 ghost use Rattle.html_page.specs.Texts.{texts, shown_texts};
+ghost use Rattle.html_page.specs.Words.{joined as all_of};
 ghost use Rattle.crs_sense.specs.declared.rule.Rule.{Rule};
 ghost use Rattle.reg_op.specs.Set as set;
 ghost use Rattle.reg_op.specs.Ids.{Id};
@@ -59,14 +62,16 @@ pub fn each_entry_has_one_row()
         → IsPermutation (map printed (entry_ids x.ops)) (map (λ (e : Entry). e.id) (s.entries ++ s.retired)) }
 {}
 
-/// The texts of the page are those of the register, in order. Each row shows an entry: its text is the indented text of the reference
-/// system that the definition spells. The rows are in the order of their keys. What a page has of texts is the words of the sides of
-/// its conflicts, and then the texts of its rows.
+/// The texts of the page are those of the register, in order. Each row shows an entry: its status, and the key, the name, the boxes and
+/// the indented text of the reference system that the definition spells. The rows are in the order of their keys. What a page has of texts
+/// is the words of the sides of its conflicts, and then the texts of its rows. What is read of it is what is said of all this.
 pub fn texts_are_in_order()
     ensures rows { (rules : List Rule) (title : List ℕ) (x : Content) (s : Shown) → IsShown rules title x s → All (ShowsEntry rules x.ops) s.entries × All (ShowsEntry rules x.ops) s.retired }
     ensures sorted { (rules : List Rule) (title : List ℕ) (x : Content) (s : Shown) → IsShown rules title x s → IsSorted entry_cmp s.entries × IsSorted entry_cmp s.retired }
     ensures page { (rules : List Rule) (title : List ℕ) (names : List Name) (x : Content) (bytes : List ℕ) (p : IsPage rules title names x bytes) → (bytes ≡ html (page (named names) p.shows))
         × (texts (page (named names) p.shows) ≡ shown_texts p.shows) }
+    ensures read { (rules : List Rule) (title : List ℕ) (names : List Name) (x : Content) (bytes : List ℕ) (p : IsPage rules title names x bytes)
+        → read_of bytes ≡ all_of (said (named names) p.shows) }
 {}
 
 /// The conflicts of the page are those of the register's report, in order: each key has each of its entries beside the next one. So

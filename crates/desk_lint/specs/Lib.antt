@@ -1,4 +1,0 @@
-pub mod Entered
-pub mod Lint
-pub mod Looked
-pub mod Texts
