@@ -3,6 +3,7 @@ mod SharedLemmas
 mod TableLemmas
 mod ChoiceLemmas
 mod StepLemmas
+mod PatchLemmas
 mod HunkLemmas
 mod CutSteps
 mod Firsts
