@@ -95,9 +95,9 @@ fn supersede_named(rt: &HostRuntime, matches: &ArgMatches<'_>) -> Result<(), Cli
         };
         return changed_by_words(rt, matches, &mut desk, &command);
     }
-    let old = entry(word(matches, "OLD"))?;
+    let old = entry(rt, matches, word(matches, "OLD"))?;
     push_listed(&mut given, matches.get_strs("BY").unwrap_or(&[]), &listed)?;
-    let newer = entries(rt.alloc(), &given)?;
+    let newer = entries(rt, matches, &given)?;
     let mut desk = open_desk(rt, rt.alloc(), named, word(matches, "office"))?;
     let command = Supersede {
         replica: desk.replica,
@@ -274,7 +274,7 @@ fn retired(rt: &HostRuntime, matches: &ArgMatches<'_>) -> Result<(), CliFault> {
         };
         return changed_by_words(rt, matches, &mut desk, &command);
     }
-    let entries = entries(rt.alloc(), &given)?;
+    let entries = entries(rt, matches, &given)?;
     let mut desk = open_desk(rt, rt.alloc(), named, word(matches, "office"))?;
     let command = Retire {
         replica: desk.replica,

@@ -1,5 +1,6 @@
 //! `take` of files, as an office with an office file.
 use crate::asked::take_options;
+use crate::undone::UnlessListed;
 use byte_io::{LateSource, Writing};
 use byte_out::Place;
 use clap::ArgMatches;
@@ -20,7 +21,7 @@ pub fn take_as<S: LateSource>(
     files: &mut [S],
 ) -> Result<TakeEffect, CliFault> {
     let mut office = open_office(rt, rt.alloc(), path)?;
-    let mut sink = Rows::sink(rt, matches, io::writer(rt));
+    let mut sink = Rows::sink(rt, matches, UnlessListed::new(matches, io::writer(rt)));
     let answer = if matches.get_flag("dry-run") {
         try_take_to(rt, matches, &office.file, files, &mut sink)
     } else {

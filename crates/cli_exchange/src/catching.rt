@@ -90,6 +90,7 @@ fn changed<T: Keep, W: Write>(
         before,
         after,
         retired: Vec::new(alloc),
+        inputs: None,
     }))
 }
 
@@ -152,6 +153,7 @@ fn printed<T: Store, W: Write>(
             before,
             after,
             retired: Vec::new(alloc),
+            inputs: None,
         })),
         Err(_) => Ok(None),
     }

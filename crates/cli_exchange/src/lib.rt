@@ -7,6 +7,7 @@ mod brought;
 mod catching;
 mod exchange;
 mod taking;
+mod undone;
 
 pub use brought::{Gained, say_gained};
 pub use exchange::{downgrade, merge, new, piece, seen, shelf, shelf_size, unshelf};

@@ -7,12 +7,16 @@ use crate::as_office::take_as;
 use crate::asked::take_options;
 use crate::brought::Gained;
 use crate::catching::catch_up;
+use crate::undone::{UnlessListed, print_undone};
 use byte_io::{LateFile, LateSource};
 use clap::ArgMatches;
+use cli_faults::CommandFiles;
 use cli_open::ending::{Done, NotDone, Outcome, all_done};
-use cli_open::{Rows, answered, office_file, open_register, open_target, word};
+use cli_open::{Rows, answered, explains, office_file, open_register, open_target, word};
+use cli_words::CommandName;
 use reg_engine::{CliFault, OutFault, ShelfProblem};
-use reg_take::{LeftOut, TakeEffect, run_take, try_take};
+use reg_state::Register;
+use reg_take::{LeftOut, TakeEffect, inputs_of, run_take, try_take};
 use std::alloc::{AllocError, Global};
 use std::io;
 use std::rt::Files;
@@ -45,12 +49,58 @@ pub fn take(rt: &HostRuntime, matches: &ArgMatches<'_>) -> Taken {
         Err(CliFault::Out(OutFault::TooLarge)) if matches.get_flag("shelf") => {
             Err(NotDone::Fault(CliFault::Shelf(ShelfProblem::TooLarge)))
         }
-        taken => joined(taken),
+        taken => told(rt, matches, taken),
     }
 }
 
+// Looks for what the join undid, if sentences are on or a list of it is printed in the place of the rows.
+fn told(rt: &HostRuntime, matches: &ArgMatches<'_>, taken: Result<TakeEffect, CliFault>) -> Taken {
+    let lists = matches.get_flag("undone");
+    let inputs = match &taken {
+        Ok(effect) if lists || explains(matches) => looked_for(rt.alloc(), matches, effect),
+        _ => None,
+    };
+    if lists {
+        if let Ok(effect) = &taken {
+            if let Err(fault) = print_list(rt, matches, &inputs, &effect.after) {
+                return Err(NotDone::Fault(fault));
+            }
+        }
+    }
+    joined(inputs, taken)
+}
+
+// The register before, and what each file had. Where offices are named, what the others did is not known.
+fn looked_for(
+    alloc: Global,
+    matches: &ArgMatches<'_>,
+    effect: &TakeEffect,
+) -> Option<Vec<Register>> {
+    if matches.get_strs("from").is_some() {
+        return None;
+    }
+    inputs_of(alloc, effect).ok()
+}
+
+fn print_list(
+    rt: &HostRuntime,
+    matches: &ArgMatches<'_>,
+    inputs: &Option<Vec<Register>>,
+    after: &Register,
+) -> Result<(), CliFault> {
+    let Some(inputs) = inputs else {
+        return Err(CliFault::Memory);
+    };
+    let named = if explains(matches) {
+        CommandFiles::of(rt, CommandName::Take, matches).ok()
+    } else {
+        None
+    };
+    print_undone(rt, inputs, after, &named)
+}
+
 // A take of files that is done left out what its engine left out.
-fn joined(taken: Result<TakeEffect, CliFault>) -> Taken
+fn joined(inputs: Option<Vec<Register>>, taken: Result<TakeEffect, CliFault>) -> Taken
     ensures { IsPart (λ (t : TakeEffect). t.left.items) taken result }
 {
     match taken {
@@ -60,6 +110,7 @@ fn joined(taken: Result<TakeEffect, CliFault>) -> Taken
                 after,
                 left,
                 retired,
+                arrivals: _,
             } = effect;
             Ok(Done {
                 left,
@@ -68,6 +119,7 @@ fn joined(taken: Result<TakeEffect, CliFault>) -> Taken
                     before,
                     after,
                     retired,
+                    inputs,
                 }),
             })
         }
@@ -105,7 +157,7 @@ fn taken_in<S: LateSource>(
 ) -> Result<TakeEffect, CliFault> {
     let options = take_options(rt.alloc(), matches, None)?;
     let mut target = open_target(rt, matches, word(matches, "REG"))?;
-    let mut sink = Rows::sink(rt, matches, io::writer(rt));
+    let mut sink = Rows::sink(rt, matches, UnlessListed::new(matches, io::writer(rt)));
     let answer = run_take(rt.alloc(), &mut target.plain(), files, &options, &mut sink);
     drop(target);
     match answered(rt.alloc(), sink, answer) {
@@ -122,7 +174,7 @@ fn taken_dry<S: LateSource>(
 ) -> Result<TakeEffect, CliFault> {
     let options = take_options(rt.alloc(), matches, None)?;
     let register = open_register(rt, rt.alloc(), matches, "REG", &None)?;
-    let mut sink = Rows::sink(rt, matches, io::writer(rt));
+    let mut sink = Rows::sink(rt, matches, UnlessListed::new(matches, io::writer(rt)));
     let answer = try_take(
         rt.alloc(),
         &mut register.reading(),

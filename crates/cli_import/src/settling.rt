@@ -19,7 +19,7 @@ fn settled(rt: &HostRuntime, matches: &ArgMatches<'_>) -> Result<(), CliFault> {
     let named = office_named(matches)?;
     let mut given = Vec::new(rt.alloc());
     push_listed(&mut given, matches.get_strs("KEEP").unwrap_or(&[]), &listed)?;
-    let keeps = entries(rt.alloc(), &given)?;
+    let keeps = entries(rt, matches, &given)?;
     let note = word(matches, "note");
     let mut desk = open_desk(rt, rt.alloc(), named, word(matches, "office"))?;
     let replica = desk.replica;

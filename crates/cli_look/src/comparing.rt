@@ -70,7 +70,7 @@ fn compare_texts(rt: &HostRuntime, matches: &ArgMatches<'_>) -> Result<bool, Cli
             },
         );
     }
-    match entry(one) {
+    match entry(rt, matches, one) {
         Ok(one) => compared_to(rt, matches, one, other),
         Err(fault) => Err(fault),
     }
@@ -83,7 +83,7 @@ fn compared_to(
     one: OpId,
     other: &str,
 ) -> Result<bool, CliFault> {
-    match entry(other) {
+    match entry(rt, matches, other) {
         Ok(other) => differs_of(rt, matches, &Compare { one, other }),
         Err(fault) => Err(fault),
     }

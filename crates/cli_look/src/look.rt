@@ -84,7 +84,7 @@ pub fn log(rt: &HostRuntime, matches: &ArgMatches<'_>) -> Result<(), CliFault> {
     if matches.get_flag("keys") {
         return print_of(rt, matches, &LogByWords { words: &given });
     }
-    let entries = entries(rt.alloc(), &given)?;
+    let entries = entries(rt, matches, &given)?;
     print_of(rt, matches, &LogOf { entries: &entries })
 }
 

@@ -7,3 +7,4 @@ pub mod Targets
 pub mod Used
 pub mod Words
 pub mod Outcome
+pub mod Typed

@@ -11,6 +11,7 @@ mod shelves;
 mod stores;
 mod table;
 mod targets;
+mod typed;
 mod waiting;
 mod words;
 
@@ -22,9 +23,10 @@ pub use shelves::{lock_new_shelf, open_shelf, open_to_read};
 pub use stores::{OpenedRegister, ReadRegister, give_of, next_file, open_register, print_of};
 pub use table::{Rows, answered, is_table};
 pub use targets::{RegisterTarget, open_target};
+pub use typed::{entries, entry};
 pub use waiting::{patience, reserve};
 pub use words::{
-    STANDARD_INPUT, STANDARD_INPUT_PATH, changed_place, entries, entry, explains, files_before,
-    is_twice, listed, office_file, open, open_all, open_text, place, printing_place, push_listed,
-    push_words, replica, wanted, word,
+    STANDARD_INPUT, STANDARD_INPUT_PATH, changed_place, explains, files_before, is_twice, listed,
+    office_file, open, open_all, open_text, place, printing_place, push_listed, push_words,
+    replica, wanted, word,
 };

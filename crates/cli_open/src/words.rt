@@ -15,7 +15,6 @@ use clap::ArgMatches;
 use clap::parser::ValueSource;
 use reg_engine::{CliFault, InputFault, Refusal};
 use reg_file::MAX_FILE;
-use reg_op::OpId;
 use reg_query::Wanted;
 use std::alloc::{AllocError, Global};
 use std::fs;
@@ -95,16 +94,6 @@ fn uuid_of(word: &str) -> Option<Uuid>
     }
 }
 
-/// The entry of the argument.
-pub fn entry(word: &str) -> Result<OpId, CliFault>
-    ensures { IfErr result (λ f. f ≡ CliFault.Refused Refusal.BadId) }
-{
-    match OpId::parse(word.as_bytes()) {
-        Some(entry) => Ok(entry),
-        None => Err(CliFault::Refused(Refusal::BadId)),
-    }
-}
-
 /// The ids on standard input, one a line, if one of the arguments is `-`. It is numbered as the file after the register.
 pub fn listed(rt: &HostRuntime, matches: &ArgMatches<'_>, name: &str) -> Result<Vec<u8>, CliFault> {
     let own = if matches.get_flag("shelf") { 1 } else { 2 };
@@ -163,20 +152,6 @@ fn push_lines<'a>(found: &mut Vec<&'a [u8]>, listed: &'a [u8]) -> Result<(), All
         found.push(line.strip_suffix(b"\r").unwrap_or(line))?;
     }
     Ok(())
-}
-
-/// The entries with these ids.
-pub fn entries(alloc: Global, words: &[&[u8]]) -> Result<Vec<OpId>, CliFault> {
-    let mut entries = Vec::new(alloc);
-    for word in words {
-        let Some(entry) = OpId::parse(word) else {
-            return Err(CliFault::Refused(Refusal::BadId));
-        };
-        if entries.push(entry).is_err() {
-            return Err(CliFault::Memory);
-        }
-    }
-    Ok(entries)
 }
 
 /// Opens the file with this number.

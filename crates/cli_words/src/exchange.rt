@@ -83,6 +83,12 @@ static TAKE: CommandRow = CommandRow {
             kind: ArgumentKind::Options("UUID"),
             ..FLAG
         },
+        CommandArgument {
+            name: "undone",
+            help: "Prints what the join undid, as a list for supersede --from",
+            excludes: &["from"],
+            ..FLAG
+        },
         ON_SHELF,
     ],
     is_office: false,

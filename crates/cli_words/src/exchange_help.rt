@@ -26,12 +26,17 @@ error has a line with its name and the reason. The others are joined, and the
 exit status is that of the first line. A piece is tried again after the others,
 since its basis may come with a later one.
 
+With --undone the lines are those of codes that REG or a FILE said to be
+superseded or withdrawn, that are not any more, and that nobody took back who
+knew of it: a list for crsreg supersede -k REG --from. It is said once.
+
 With --from, only the operations that these offices made are joined, and REG
 has seen their numbers and no others of the files. Numbers without an operation
 are not joined, so a gap may stay. A piece needs no basis then.
 
 Examples:
   crsreg take office.crs north.crs south.piece
+  crsreg take office.crs north.crs --undone >list
   crsreg new clean.crs
   crsreg take clean.crs office.crs --from $NORTH --from $SOUTH";
 

@@ -73,7 +73,7 @@ is_id_odd id = is_text_odd id.authority.bytes || is_code_odd id.code || is_near_
 abbrev pub id_what : Ident → List ℕ
 id_what id =
     if is_near_known id.authority.bytes then codes "has an authority that is nearly a known one: EPSG, ESRI, IGNF, OGC, IAU_2015, NKG or PROJ"
-    else codes "is empty in part, has odd blanks or control characters, or is a number with a sign or leading zeros"
+    else codes "is empty in part, has odd blanks or hidden characters, or is a number with a sign or leading zeros"
 
 abbrev pub id_said : Ident → List ℕ
 id_said id = concat (codes "the identifier \"" ∷ id.authority.bytes ∷ codes "\", \"" ∷ text_of id.code ∷ codes "\" " ∷ id_what id ∷ [])

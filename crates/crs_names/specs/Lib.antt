@@ -1,4 +1,4 @@
-pub mod Items
+pub mod Nodes
 pub mod Name
 pub mod Key
 pub mod Unit

@@ -1,24 +1,36 @@
--- What makes a name, an identifier or a unit odd, and what is said of it.
-use Rattle.std.specs.Prelude.{ℕ, Bool, false, List}
-use Rattle.crs_names.specs.declared.items.Seek.{Seek}
-use Rattle.crs_names.specs.declared.items.Seek.TheVariants as seek
-use Rattle.crs_names.specs.Items.{Item, Name, Id, OfUnit}
+-- What is odd about a name, an identifier or a unit.
+use Rattle.std.specs.Prelude.{ℕ, List, [], ◌∷◌, Option, Some, None, if◌then◌else◌}
+use Rattle.std.specs.Option.{option_or}
+use Rattle.crs_part.specs.declared.text.Text.{Text}
+use Rattle.crs_names.specs.declared.odd.Seek.{Seek}
+use Rattle.crs_names.specs.declared.odd.Seek.TheVariants as seek
+use Rattle.crs_names.specs.Nodes.{Part, name_of, OfId, OfUnit}
 use Rattle.crs_names.specs.Name.{is_text_odd, name_said}
 use Rattle.crs_names.specs.Key.{is_id_odd, id_said}
 use Rattle.crs_names.specs.Unit.{is_unit_odd, unit_said}
 
-abbrev pub is_odd : Seek → Item → Bool
-is_odd seek.Names (Name t) = is_text_odd t.bytes
-is_odd seek.Names (Id i) = false
-is_odd seek.Names (OfUnit u) = false
-is_odd seek.Ids (Name t) = false
-is_odd seek.Ids (Id i) = is_id_odd i
-is_odd seek.Ids (OfUnit u) = false
-is_odd seek.Units (Name t) = false
-is_odd seek.Units (Id i) = false
-is_odd seek.Units (OfUnit u) = is_unit_odd u
+abbrev pub odd_text : Option Text → Option (List ℕ)
+odd_text None = None
+odd_text (Some t) = if is_text_odd t.bytes then Some (name_said t) else None
 
-abbrev pub item_said : Item → List ℕ
-item_said (Name t) = name_said t
-item_said (Id i) = id_said i
-item_said (OfUnit u) = unit_said u
+abbrev pub odd_name : Part → Option (List ℕ)
+odd_name part = odd_text (name_of part)
+
+abbrev pub odd_id : Part → Option (List ℕ)
+odd_id (OfId x) = if is_id_odd x then Some (id_said x) else None
+odd_id _ = None
+
+abbrev pub odd_unit : Part → Option (List ℕ)
+odd_unit (OfUnit x) = if is_unit_odd x then Some (unit_said x) else None
+odd_unit _ = None
+
+-- the sentence about a node, if it is odd
+abbrev pub odd : Seek → Part → Option (List ℕ)
+odd seek.Names = odd_name
+odd seek.Ids = odd_id
+odd seek.Units = odd_unit
+
+-- about the first of some
+abbrev pub first_odd : Seek → List Part → Option (List ℕ)
+first_odd s [] = None
+first_odd s (p ∷ ps) = option_or (odd s p) (first_odd s ps)

@@ -1,4 +1,4 @@
-//! Identifiers with odd blanks or control characters, of an authority that is nearly a known one, or with a padded number.
+//! Identifiers with odd blanks or hidden characters, of an authority that is nearly a known one, or with a padded number.
 
 ghost use Rattle.std.specs.Prelude.{◌≡◌};
 ghost use Rattle.std.specs.List.{list_all};
@@ -46,7 +46,7 @@ fn id_what(id: &Ident) -> &'static [u8]
     if is_near_known(id.authority.as_bytes()) {
         return b"has an authority that is nearly a known one: EPSG, ESRI, IGNF, OGC, IAU_2015, NKG or PROJ";
     }
-    b"is empty in part, has odd blanks or control characters, or is a number with a sign or leading zeros"
+    b"is empty in part, has odd blanks or hidden characters, or is a number with a sign or leading zeros"
 }
 
 /// Whether the identifier is such an identifier.

@@ -1,13 +1,15 @@
-//! Rules of sense about the names, the identifiers and the units of all parts of a reference system.
+//! The nodes of a reference system, and the rules of sense about their names, identifiers and units.
 #![tactic(auto)]
 
-mod items;
+mod finder;
 mod key;
 mod name;
+mod node;
+mod nodes;
 mod odd;
-mod parts;
 mod unit;
 mod units;
 
-pub use items::{Found, HasItems, Seek};
-pub use odd::odd_item;
+pub use node::Node;
+pub use nodes::{HasNodes, Visitor};
+pub use odd::{Seek, odd_item, odd_whole};

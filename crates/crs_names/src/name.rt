@@ -1,11 +1,12 @@
-//! Names that are empty, or have odd blanks or control characters.
+//! Names that are empty, or have odd blanks or hidden characters.
 
 ghost use Rattle.std.specs.Prelude.{◌≡◌, true};
 ghost use Rattle.crs_exact.specs.Said.{sentence};
-ghost use Rattle.crs_names.specs.Name.{is_blank, is_control, is_text_odd, name_said};
+ghost use Rattle.crs_names.specs.Name.{is_blank, begins_hidden, is_text_odd, name_said};
 
 use crs_exact::{END, Finding, Piece};
 use crs_part::Text;
+use text_hidden::hidden_at;
 
 /// The sentence of a name.
 pub(crate) fn name_said(name: &Text) -> Finding<'_>
@@ -15,7 +16,7 @@ pub(crate) fn name_said(name: &Text) -> Finding<'_>
         Piece::Text(b"the name \""),
         Piece::Text(name.as_bytes()),
         Piece::Text(
-            b"\" is empty, or has a blank at an end, two blanks in a row, or a control character",
+            b"\" is empty, or has a blank at an end, two blanks in a row, or a hidden character",
         ),
         END,
         END,
@@ -29,14 +30,14 @@ pub(crate) fn name_said(name: &Text) -> Finding<'_>
     ])
 }
 
-/// Whether a text is empty, has a blank at an end or two in a row, or a control character.
+/// Whether a text is empty, has a blank at an end or two in a row, or a hidden character.
 pub(crate) fn is_text_odd(text: &[u8]) -> bool
     ensures { result ≡ is_text_odd text.now }
 {
     let mut rest = text;
     let mut blank = true;
     while let Some((byte, others)) = rest.split_first() {
-        if is_control(*byte) || (blank && is_blank(*byte)) {
+        if begins_hidden(*byte, others) || (blank && is_blank(*byte)) {
             return true;
         }
         blank = is_blank(*byte);
@@ -51,8 +52,9 @@ fn is_blank(byte: u8) -> bool
     byte == b' '
 }
 
-fn is_control(byte: u8) -> bool
-    ensures { result ≡ is_control byte }
+#[tactic(auto, unfolding(crate::specs::Name::begins_hidden))]
+fn begins_hidden(byte: u8, rest: &[u8]) -> bool
+    ensures { result ≡ begins_hidden byte rest.now }
 {
-    byte < 32 || byte == 127
+    hidden_at(byte, rest).is_some()
 }

@@ -1,57 +1,89 @@
-//! What makes a name, an identifier or a unit odd, and what is said of it.
+//! The first node that is odd, and what is said of it.
 
-ghost use Rattle.std.specs.Prelude.{◌≡◌};
-ghost use Rattle.std.specs.List.{find};
+ghost use Rattle.std.specs.Prelude.{◌≡◌, ◌∷◌, [], List};
 ghost use Rattle.std.specs.Option.{option_map};
 ghost use Rattle.crs_exact.specs.Said.{sentence};
-ghost use Rattle.crs_names.specs.Items.{item_of};
-ghost use Rattle.crs_names.specs.Odd.{is_odd, item_said};
+ghost use Rattle.crs_names.specs.Nodes.{part_of, all_of_single, whole_of_compound};
+ghost use Rattle.crs_names.specs.Odd.{odd, odd_name, odd_id, odd_unit, first_odd};
 
-use crate::items::{Found, HasItems, Seek};
+use crate::finder::Finder;
 use crate::key::{id_said, is_id_odd};
 use crate::name::{is_text_odd, name_said};
+use crate::node::Node;
+use crate::nodes::{show_single, show_whole};
 use crate::unit::{is_unit_odd, unit_said};
 use crs_exact::Finding;
+use crs_part::{Compound, Single};
 
-/// The first odd name, identifier or unit.
-pub fn odd_item<T: HasItems>(part: &T, seek: Seek) -> Option<Finding<'_>>
-    ensures { option_map sentence result ≡ option_map item_said (find (is_odd seek) (T.items part.now)) }
-{
-    match part.first(seek) {
-        Some(found) => Some(item_said(found)),
-        None => None,
-    }
+/// What a rule looks for.
+#[derive(Clone, Copy)]
+pub enum Seek {
+    Names,
+    Ids,
+    Units,
 }
 
-/// Whether a part is odd.
-pub(crate) fn is_odd(seek: Seek, found: &Found<'_>) -> bool
-    ensures { result ≡ is_odd seek (item_of found.now) }
+/// The first odd name, identifier or unit of a system that is no compound.
+pub fn odd_item(crs: &Single, seek: Seek) -> Option<Finding<'_>>
+    ensures { option_map sentence result ≡ first_odd seek (all_of_single crs.now []) }
+{
+    let mut finder = Finder { seek, found: None };
+    show_single(crs, &mut finder);
+    finder.found
+}
+
+/// The first one of a compound, apart from its components.
+pub fn odd_whole(crs: &Compound, seek: Seek) -> Option<Finding<'_>>
+    ensures { option_map sentence result ≡ first_odd seek (whole_of_compound crs.now []) }
+{
+    let mut finder = Finder { seek, found: None };
+    show_whole(crs, &mut finder);
+    finder.found
+}
+
+/// What is odd about a node.
+pub(crate) fn odd(seek: Seek, node: Node<'_>) -> Option<Finding<'_>>
+    ensures { option_map sentence result ≡ odd seek (part_of node.entry) }
 {
     match seek {
-        Seek::Names => match found {
-            Found::Name(name) => is_text_odd(name.as_bytes()),
-            Found::Id(_) => false,
-            Found::OfUnit(_) => false,
-        },
-        Seek::Ids => match found {
-            Found::Name(_) => false,
-            Found::Id(id) => is_id_odd(id),
-            Found::OfUnit(_) => false,
-        },
-        Seek::Units => match found {
-            Found::Name(_) => false,
-            Found::Id(_) => false,
-            Found::OfUnit(unit) => is_unit_odd(unit),
-        },
+        Seek::Names => odd_name(node),
+        Seek::Ids => odd_id(node),
+        Seek::Units => odd_unit(node),
     }
 }
 
-fn item_said(found: Found<'_>) -> Finding<'_>
-    ensures { sentence result ≡ item_said (item_of found.entry) }
+fn odd_name(node: Node<'_>) -> Option<Finding<'_>>
+    ensures { option_map sentence result ≡ odd_name (part_of node.entry) }
 {
-    match found {
-        Found::Name(name) => name_said(name),
-        Found::Id(id) => id_said(id),
-        Found::OfUnit(unit) => unit_said(unit),
+    let Some(name) = node.name() else {
+        return None;
+    };
+    if is_text_odd(name.as_bytes()) {
+        return Some(name_said(name));
     }
+    None
+}
+
+fn odd_id(node: Node<'_>) -> Option<Finding<'_>>
+    ensures { option_map sentence result ≡ odd_id (part_of node.entry) }
+{
+    let Node::Id(id) = node else {
+        return None;
+    };
+    if is_id_odd(id) {
+        return Some(id_said(id));
+    }
+    None
+}
+
+fn odd_unit(node: Node<'_>) -> Option<Finding<'_>>
+    ensures { option_map sentence result ≡ odd_unit (part_of node.entry) }
+{
+    let Node::Unit(unit) = node else {
+        return None;
+    };
+    if is_unit_odd(unit) {
+        return Some(unit_said(unit));
+    }
+    None
 }

@@ -1,14 +1,12 @@
 //! Claims about first identifiers.
 
-ghost use Rattle.std.specs.Prelude.{◌≡◌, ◌++◌, ◌∷◌, [], true, false, map, IfOk, OnOk};
+ghost use Rattle.std.specs.Prelude.{◌≡◌, ◌++◌, ◌∷◌, [], map, IfOk, OnOk};
 ghost use Rattle.crs_value.specs.Keys.{text_of};
-ghost use Rattle.crs_said.specs.Fields.{name_field};
 ghost use Rattle.crs_said.specs.Claims.{claim_seen};
-ghost use Rattle.crs_said.specs.Parts.{id_word, part_said, id_said, id_claim, id_claims};
+ghost use Rattle.crs_said.specs.Parts.{id_word, part_said, id_said, id_claim};
 
 use crate::claim::{Claim, push_claim};
-use crate::fields::{push_end, push_field, push_name};
-use crate::says::Says;
+use crate::fields::{push_end, push_field};
 use crs_exact::number;
 use crs_part::{Ident, NumberOrText, Text};
 use std::alloc::{AllocError, Global};
@@ -21,44 +19,6 @@ pub(crate) const CONTENT: usize = 64;
 
 /// Most sentences have fewer bytes than these beside a name.
 const SENTENCE: usize = 88;
-
-/// Claims that the first identifier of a part has what the part says.
-pub(crate) fn push_part<T: Says>(
-    alloc: Global,
-    claims: &mut Vec<Claim>,
-    kind: &[u8],
-    name: &Text,
-    ids: &[Ident],
-    part: &T,
-) -> Result<(), AllocError>
-    ensures { OnOk result (map claim_seen claims.new.items ≡ map claim_seen claims.old.items ++ id_claims kind.now name.now.bytes (T.said true part.now) ids.now) }
-{
-    let Some(id) = ids.first() else {
-        return Ok(());
-    };
-    let mut content = Vec::with_capacity(alloc, CONTENT)?;
-    part.say(true, &mut content)?;
-    content.shrink_to_fit();
-    push_id(alloc, claims, kind, name, content, id)
-}
-
-/// Claims that the first identifier of a part has its name.
-pub(crate) fn push_named(
-    alloc: Global,
-    claims: &mut Vec<Claim>,
-    kind: &[u8],
-    name: &Text,
-    ids: &[Ident],
-) -> Result<(), AllocError>
-    ensures { OnOk result (map claim_seen claims.new.items ≡ map claim_seen claims.old.items ++ id_claims kind.now name.now.bytes (name_field false name.now.bytes) ids.now) }
-{
-    let Some(id) = ids.first() else {
-        return Ok(());
-    };
-    let mut content = Vec::with_capacity(alloc, name.as_bytes().len().saturating_add(1))?;
-    push_name(false, name, &mut content)?;
-    push_id(alloc, claims, kind, name, content, id)
-}
 
 /// Claims that an identifier has this content.
 pub(crate) fn push_id(

@@ -1,8 +1,8 @@
 //! What a reference system says, as texts that are compared with those of others.
 #![tactic(auto)]
 
-mod bases;
 mod claim;
+mod collector;
 mod datums;
 mod fields;
 mod identified;
@@ -15,9 +15,9 @@ mod spellings;
 mod systems;
 mod whole;
 
-pub use bases::part_claims;
 pub use claim::Claim;
 pub use datums::datum_claims;
+pub use parts::part_claims;
 pub use references::{said_names, system_names};
 pub use spellings::case_claims;
 pub use whole::{kind_and_name, without_names};

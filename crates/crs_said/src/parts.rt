@@ -1,255 +1,135 @@
 //! What systems claim about the identifiers of parts.
 
-ghost use Rattle.std.specs.Prelude.{◌≡◌, ◌++◌, true, List, [], map, OnOk};
-ghost use Rattle.std.specs.List.{flat_map};
-ghost use Rattle.std.specs.Option.{option_map_or};
-ghost use Rattle.crs_part.specs.Slots.{items_of};
-ghost use Rattle.crs_said.specs.Claims.{Said, claim_seen};
-ghost use Rattle.crs_said.specs.Parts.{unit_definition_claims, length_unit_claims, angle_unit_claims, unit_claims, ellipsoid_claims, prime_meridian_claims, geodetic_datum_claims, geodetic_ensemble_claims, geodetic_frame_claims, vertical_datum_claims, vertical_ensemble_claims, vertical_frame_claims, parameter_claims, conversion_claims};
+ghost use Rattle.std.specs.Prelude.{◌≡◌, ◌++◌, map, IfOk, OnOk};
+ghost use Rattle.crs_names.specs.Nodes.{part_of};
+ghost use Rattle.crs_said.specs.Claims.{claim_seen};
+ghost use Rattle.crs_said.specs.Parts.{ids_of, kind_of, base_content, content_of, claims_of, part_claims};
 
 use crate::claim::Claim;
-use crate::identified::{push_named, push_part};
-use crs_exact::{angle_of, length_of, unit_of};
-use crs_part::{
-    AngleUnit, Conversion, Datum, Ellipsoid, GeodeticEnsemble, GeodeticFrame, LengthUnit, Many,
-    NonEmpty, Parameter, PrimeMeridian, Unit, UnitDefinition, VerticalDatum, VerticalEnsemble,
-    VerticalFrame,
-};
+use crate::collector::Collector;
+use crate::fields::push_name;
+use crate::identified::push_id;
+use crate::says::Says;
+use crs_names::{HasNodes, Node};
+use crs_part::{CrsParts, GeodeticFrame, Ident, PrimeMeridian, Text};
 use std::alloc::{AllocError, Global};
 
-/// A part that has identifiers, or contains parts that have.
-pub(crate) trait HasParts {
-    ghost claimed: { Self → List Said };
+/// Most systems have fewer claims than these.
+const CLAIMS: usize = 8;
 
-    /// Appends the claims about them.
-    fn claim(&self, alloc: Global, claims: &mut Vec<Claim>) -> Result<(), AllocError>
-        ensures { OnOk result (map claim_seen claims.new.items ≡ map claim_seen claims.old.items ++ claimed self.now) };
-}
+/// Most parts say fewer bytes than these.
+const CONTENT: usize = 192;
 
-impl<T: HasParts> HasParts for Option<T> {
-    ghost claimed = { λ part. option_map_or T.claimed part [] };
-
-    fn claim(&self, alloc: Global, claims: &mut Vec<Claim>) -> Result<(), AllocError> {
-        match self {
-            Some(part) => part.claim(alloc, claims),
-            None => Ok(()),
-        }
-    }
-}
-
-fn claim_all<T: HasParts>(
-    alloc: Global,
-    parts: &[T],
-    claims: &mut Vec<Claim>,
-) -> Result<(), AllocError>
-    ensures { OnOk result (map claim_seen claims.new.items ≡ map claim_seen claims.old.items ++ flat_map T.claimed parts.now) }
+/// For each part that has identifiers: the first one has this content, which is all that the part says but for identifiers,
+/// usages, anchors and remarks. A method or a parameter has its name as its content, without letter case. A base has its name, its
+/// datum and its prime meridian; a geodetic or geographic system counts as one. Members of ensembles, geoid models, axes and
+/// coordinate systems are passed over.
+pub fn part_claims(alloc: Global, crs: &CrsParts) -> Result<Vec<Claim>, AllocError>
+    ensures { IfOk result (λ claims. map claim_seen claims.items ≡ part_claims crs.now) }
 {
-    for part in parts {
-        part.claim(alloc, claims)?;
-    }
-    Ok(())
+    let claims = Vec::with_capacity(alloc, CLAIMS)?;
+    let mut collector = Collector {
+        alloc,
+        claims,
+        failed: false,
+    };
+    crs.show(&mut collector);
+    collector.claims()
 }
 
-impl<T: HasParts> HasParts for Many<T> {
-    ghost claimed = { flat_map T.claimed };
-
-    fn claim(&self, alloc: Global, claims: &mut Vec<Claim>) -> Result<(), AllocError> {
-        claim_all(alloc, self.as_slice(), claims)
-    }
+/// Appends what a system claims about the first identifier of a part.
+pub(crate) fn push_claims(
+    alloc: Global,
+    claims: &mut Vec<Claim>,
+    node: Node<'_>,
+) -> Result<(), AllocError>
+    ensures { OnOk result (map claim_seen claims.new.items ≡ map claim_seen claims.old.items ++ claims_of (part_of node.entry)) }
+{
+    let Some(name) = node.name() else {
+        return Ok(());
+    };
+    let Some(id) = ids_of(node).first() else {
+        return Ok(());
+    };
+    let mut content = Vec::with_capacity(alloc, CONTENT)?;
+    push_content(&mut content, node)?;
+    content.shrink_to_fit();
+    push_id(alloc, claims, kind_of(node), name, content, id)
 }
 
-impl<T: HasParts> HasParts for NonEmpty<T> {
-    ghost claimed = { λ some. flat_map T.claimed (items_of some) };
-
-    fn claim(&self, alloc: Global, claims: &mut Vec<Claim>) -> Result<(), AllocError> {
-        self.first.claim(alloc, claims)?;
-        self.others.claim(alloc, claims)
-    }
-}
-
-impl HasParts for UnitDefinition {
-    ghost claimed = { unit_definition_claims };
-
-    fn claim(&self, alloc: Global, claims: &mut Vec<Claim>) -> Result<(), AllocError> {
-        push_part(
-            alloc,
-            claims,
-            b"unit",
-            &self.name,
-            self.ids.as_slice(),
-            self,
-        )
-    }
-}
-
-impl HasParts for LengthUnit {
-    ghost claimed = { length_unit_claims };
-
-    fn claim(&self, alloc: Global, claims: &mut Vec<Claim>) -> Result<(), AllocError> {
-        length_of(self).claim(alloc, claims)
-    }
-}
-
-impl HasParts for AngleUnit {
-    ghost claimed = { angle_unit_claims };
-
-    fn claim(&self, alloc: Global, claims: &mut Vec<Claim>) -> Result<(), AllocError> {
-        angle_of(self).claim(alloc, claims)
-    }
-}
-
-impl HasParts for Unit {
-    ghost claimed = { unit_claims };
-
-    fn claim(&self, alloc: Global, claims: &mut Vec<Claim>) -> Result<(), AllocError> {
-        unit_of(self).claim(alloc, claims)
+// The identifiers of a part that is claimed about.
+fn ids_of<'a>(node: Node<'a>) -> &'a [Ident]
+    ensures { result.now ≡ ids_of (part_of node.entry) }
+{
+    match node {
+        Node::Name(_) => &[],
+        Node::Id(_) => &[],
+        Node::Unit(part) => part.ids.as_slice(),
+        Node::Ellipsoid(part) => part.ids.as_slice(),
+        Node::PrimeMeridian(part) => part.ids.as_slice(),
+        Node::Datum(part) => part.ids.as_slice(),
+        Node::Ensemble(part) => part.ids.as_slice(),
+        Node::VerticalDatum(part) => part.ids.as_slice(),
+        Node::VerticalEnsemble(part) => part.ids.as_slice(),
+        Node::Method(part) => part.ids.as_slice(),
+        Node::Parameter(part) => part.ids.as_slice(),
+        Node::Conversion(part) => part.ids.as_slice(),
+        Node::Base(part) => part.ids.as_slice(),
+        Node::Geodetic(part) => part.ids.as_slice(),
     }
 }
 
-impl HasParts for Ellipsoid {
-    ghost claimed = { ellipsoid_claims };
-
-    fn claim(&self, alloc: Global, claims: &mut Vec<Claim>) -> Result<(), AllocError> {
-        push_part(
-            alloc,
-            claims,
-            b"ellipsoid",
-            &self.name,
-            self.ids.as_slice(),
-            self,
-        )?;
-        self.unit.claim(alloc, claims)
+fn kind_of(node: Node<'_>) -> &'static [u8]
+    ensures { result.now ≡ kind_of (part_of node.entry) }
+{
+    match node {
+        Node::Name(_) => b"",
+        Node::Id(_) => b"",
+        Node::Unit(_) => b"unit",
+        Node::Ellipsoid(_) => b"ellipsoid",
+        Node::PrimeMeridian(_) => b"prime meridian",
+        Node::Datum(_) => b"datum",
+        Node::Ensemble(_) => b"ensemble",
+        Node::VerticalDatum(_) => b"datum",
+        Node::VerticalEnsemble(_) => b"ensemble",
+        Node::Method(_) => b"method",
+        Node::Parameter(_) => b"parameter",
+        Node::Conversion(_) => b"conversion",
+        Node::Base(_) => b"base",
+        Node::Geodetic(_) => b"base",
     }
 }
 
-impl HasParts for PrimeMeridian {
-    ghost claimed = { prime_meridian_claims };
-
-    fn claim(&self, alloc: Global, claims: &mut Vec<Claim>) -> Result<(), AllocError> {
-        push_part(
-            alloc,
-            claims,
-            b"prime meridian",
-            &self.name,
-            self.ids.as_slice(),
-            self,
-        )?;
-        self.unit.claim(alloc, claims)
+fn push_content(out: &mut Vec<u8>, node: Node<'_>) -> Result<(), AllocError>
+    ensures { OnOk result (out.new.items ≡ out.old.items ++ content_of (part_of node.entry)) }
+{
+    match node {
+        Node::Name(_) => Ok(()),
+        Node::Id(_) => Ok(()),
+        Node::Unit(part) => part.say(true, out),
+        Node::Ellipsoid(part) => part.say(true, out),
+        Node::PrimeMeridian(part) => part.say(true, out),
+        Node::Datum(part) => part.say(true, out),
+        Node::Ensemble(part) => part.say(true, out),
+        Node::VerticalDatum(part) => part.say(true, out),
+        Node::VerticalEnsemble(part) => part.say(true, out),
+        Node::Method(part) => part.say(false, out),
+        Node::Parameter(part) => push_name(false, &part.name, out),
+        Node::Conversion(part) => part.say(true, out),
+        Node::Base(part) => push_base(out, &part.name, &part.datum, &part.prime_meridian),
+        Node::Geodetic(part) => push_base(out, &part.name, &part.datum, &part.prime_meridian),
     }
 }
 
-impl HasParts for Datum {
-    ghost claimed = { geodetic_datum_claims };
-
-    fn claim(&self, alloc: Global, claims: &mut Vec<Claim>) -> Result<(), AllocError> {
-        push_part(
-            alloc,
-            claims,
-            b"datum",
-            &self.name,
-            self.ids.as_slice(),
-            self,
-        )?;
-        self.ellipsoid.claim(alloc, claims)
-    }
-}
-
-impl HasParts for GeodeticEnsemble {
-    ghost claimed = { geodetic_ensemble_claims };
-
-    fn claim(&self, alloc: Global, claims: &mut Vec<Claim>) -> Result<(), AllocError> {
-        push_part(
-            alloc,
-            claims,
-            b"ensemble",
-            &self.name,
-            self.ids.as_slice(),
-            self,
-        )?;
-        self.ellipsoid.claim(alloc, claims)
-    }
-}
-
-impl HasParts for GeodeticFrame {
-    ghost claimed = { geodetic_frame_claims };
-
-    fn claim(&self, alloc: Global, claims: &mut Vec<Claim>) -> Result<(), AllocError> {
-        match self {
-            GeodeticFrame::Datum(part) => part.claim(alloc, claims),
-            GeodeticFrame::Ensemble(part) => part.claim(alloc, claims),
-        }
-    }
-}
-
-impl HasParts for VerticalDatum {
-    ghost claimed = { vertical_datum_claims };
-
-    fn claim(&self, alloc: Global, claims: &mut Vec<Claim>) -> Result<(), AllocError> {
-        push_part(
-            alloc,
-            claims,
-            b"datum",
-            &self.name,
-            self.ids.as_slice(),
-            self,
-        )
-    }
-}
-
-impl HasParts for VerticalEnsemble {
-    ghost claimed = { vertical_ensemble_claims };
-
-    fn claim(&self, alloc: Global, claims: &mut Vec<Claim>) -> Result<(), AllocError> {
-        push_part(
-            alloc,
-            claims,
-            b"ensemble",
-            &self.name,
-            self.ids.as_slice(),
-            self,
-        )
-    }
-}
-
-impl HasParts for VerticalFrame {
-    ghost claimed = { vertical_frame_claims };
-
-    fn claim(&self, alloc: Global, claims: &mut Vec<Claim>) -> Result<(), AllocError> {
-        match self {
-            VerticalFrame::Datum(part) => part.claim(alloc, claims),
-            VerticalFrame::Ensemble(part) => part.claim(alloc, claims),
-        }
-    }
-}
-
-impl HasParts for Parameter {
-    ghost claimed = { parameter_claims };
-
-    fn claim(&self, alloc: Global, claims: &mut Vec<Claim>) -> Result<(), AllocError> {
-        push_named(alloc, claims, b"parameter", &self.name, self.ids.as_slice())?;
-        self.unit.claim(alloc, claims)
-    }
-}
-
-impl HasParts for Conversion {
-    ghost claimed = { conversion_claims };
-
-    fn claim(&self, alloc: Global, claims: &mut Vec<Claim>) -> Result<(), AllocError> {
-        push_part(
-            alloc,
-            claims,
-            b"conversion",
-            &self.name,
-            self.ids.as_slice(),
-            self,
-        )?;
-        push_named(
-            alloc,
-            claims,
-            b"method",
-            &self.method.name,
-            self.method.ids.as_slice(),
-        )?;
-        self.parameters.claim(alloc, claims)
-    }
+fn push_base(
+    out: &mut Vec<u8>,
+    name: &Text,
+    frame: &GeodeticFrame,
+    prime: &Option<PrimeMeridian>,
+) -> Result<(), AllocError>
+    ensures { OnOk result (out.new.items ≡ out.old.items ++ base_content name.now frame.now prime.now) }
+{
+    push_name(true, name, out)?;
+    frame.say(true, out)?;
+    prime.say(true, out)
 }

@@ -1,7 +1,6 @@
 -- The rules, and what a reference system has that breaks one.
 use Rattle.std.specs.Prelude.{ℕ, Bool, List, [], ◌∷◌, Option, Some, None, codes}
-use Rattle.std.specs.List.{find}
-use Rattle.std.specs.Option.{option_map, option_or, is_some}
+use Rattle.std.specs.Option.{option_or, is_some}
 use Rattle.crs_part.specs.declared.crs.Single.{Single}
 use Rattle.crs_part.specs.declared.crs.Compound.{Compound}
 use Rattle.crs_part.specs.declared.crs.CrsParts.{CrsParts}
@@ -18,10 +17,9 @@ use Rattle.crs_conversion.specs.Scale.{scale}
 use Rattle.crs_meridians.specs.Away.{away}
 use Rattle.crs_meridians.specs.Meridian.{meridian}
 use Rattle.crs_meridians.specs.Zone.{zone}
-use Rattle.crs_names.specs.declared.items.Seek.{Seek}
-use Rattle.crs_names.specs.declared.items.Seek.TheVariants as seek
-use Rattle.crs_names.specs.Items.{Item, single_items, compound_items}
-use Rattle.crs_names.specs.Odd.{is_odd, item_said}
+use Rattle.crs_names.specs.declared.odd.Seek.TheVariants as seek
+use Rattle.crs_names.specs.Nodes.{all_of_single, whole_of_compound}
+use Rattle.crs_names.specs.Odd.{first_odd}
 use Rattle.crs_sense.specs.declared.rule.Rule.{Rule}
 use Rattle.crs_sense.specs.declared.rule.Rule.TheVariants as the
 use Rattle.crs_sense.specs.Accuracy.{accuracy}
@@ -64,10 +62,6 @@ rule_name the.Zone = codes "zone"
 abbrev pub rules_listed : List Rule
 rules_listed = the.Accuracy ∷ the.Angle ∷ the.Away ∷ the.Axes ∷ the.AxisName ∷ the.Box ∷ the.Packed ∷ the.Ellipsoid ∷ the.FalseUnit ∷ the.Figure ∷ the.Height ∷ the.Key ∷ the.Meridian ∷ the.Name ∷ the.Operation ∷ the.Parallels ∷ the.Prime ∷ the.Quantity ∷ the.Radian ∷ the.Scale ∷ the.Unit ∷ the.UnitName ∷ the.Zone ∷ []
 
--- the first odd one of these names, identifiers and units
-abbrev items_found : List Item → Seek → Option (List ℕ)
-items_found items s = option_map item_said (find (is_odd s) items)
-
 -- the sentence about what a system of one part has that breaks the rule
 abbrev pub found_in : Rule → Single → Option (List ℕ)
 found_in the.Accuracy crs = accuracy crs
@@ -81,44 +75,26 @@ found_in the.Ellipsoid crs = ellipsoid crs
 found_in the.FalseUnit crs = false_unit crs
 found_in the.Figure crs = figure crs
 found_in the.Height crs = height crs
-found_in the.Key crs = items_found (single_items crs) seek.Ids
+found_in the.Key crs = first_odd seek.Ids (all_of_single crs [])
 found_in the.Meridian crs = meridian crs
-found_in the.Name crs = items_found (single_items crs) seek.Names
+found_in the.Name crs = first_odd seek.Names (all_of_single crs [])
 found_in the.Operation crs = operation crs
 found_in the.Parallels crs = parallels crs
 found_in the.Prime crs = prime crs
 found_in the.Quantity crs = quantity crs
 found_in the.Radian crs = radian crs
 found_in the.Scale crs = scale crs
-found_in the.Unit crs = items_found (single_items crs) seek.Units
+found_in the.Unit crs = first_odd seek.Units (all_of_single crs [])
 found_in the.UnitName crs = unit_name crs
 found_in the.Zone crs = zone crs
 
 -- about what a compound has, apart from its components
 abbrev pub found_in_whole : Rule → Compound → Option (List ℕ)
-found_in_whole the.Accuracy crs = None
-found_in_whole the.Angle crs = None
-found_in_whole the.Away crs = None
-found_in_whole the.Axes crs = None
-found_in_whole the.AxisName crs = None
 found_in_whole the.Box crs = boxes crs.usages
-found_in_whole the.Packed crs = None
-found_in_whole the.Ellipsoid crs = None
-found_in_whole the.FalseUnit crs = None
-found_in_whole the.Figure crs = None
-found_in_whole the.Height crs = None
-found_in_whole the.Key crs = items_found (compound_items crs) seek.Ids
-found_in_whole the.Meridian crs = None
-found_in_whole the.Name crs = items_found (compound_items crs) seek.Names
-found_in_whole the.Operation crs = None
-found_in_whole the.Parallels crs = None
-found_in_whole the.Prime crs = None
-found_in_whole the.Quantity crs = None
-found_in_whole the.Radian crs = None
-found_in_whole the.Scale crs = None
-found_in_whole the.Unit crs = items_found (compound_items crs) seek.Units
-found_in_whole the.UnitName crs = None
-found_in_whole the.Zone crs = None
+found_in_whole the.Key crs = first_odd seek.Ids (whole_of_compound crs [])
+found_in_whole the.Name crs = first_odd seek.Names (whole_of_compound crs [])
+found_in_whole the.Unit crs = first_odd seek.Units (whole_of_compound crs [])
+found_in_whole _ crs = None
 
 -- of the first component that has it, or else of the whole
 abbrev pub found_in_both : Rule → Compound → Option (List ℕ)

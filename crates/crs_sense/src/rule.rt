@@ -23,7 +23,7 @@ use crs_conversion::{
 };
 use crs_exact::{Finding, usages_of};
 use crs_meridians::{odd_away, odd_meridian, odd_zone};
-use crs_names::{Seek, odd_item};
+use crs_names::{Seek, odd_item, odd_whole};
 use crs_part::{Compound, CrsParts, Single, Word, first_of};
 use std::alloc::{AllocError, Global};
 
@@ -231,9 +231,9 @@ impl Rule {
     {
         match self {
             Rule::Box => odd_boxes(crs.usages.as_slice()),
-            Rule::Key => odd_item(crs, Seek::Ids),
-            Rule::Name => odd_item(crs, Seek::Names),
-            Rule::Unit => odd_item(crs, Seek::Units),
+            Rule::Key => odd_whole(crs, Seek::Ids),
+            Rule::Name => odd_whole(crs, Seek::Names),
+            Rule::Unit => odd_whole(crs, Seek::Units),
             _ => None,
         }
     }

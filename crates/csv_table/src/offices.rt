@@ -6,9 +6,12 @@ mod names;
 mod reading;
 mod rows;
 mod shown;
+mod standing;
+mod words;
 
 pub use fault::NamesFault;
 pub use names::Name;
 pub use reading::read;
 pub use rows::with_names;
 pub use shown::named;
+pub use words::typed;

@@ -15,7 +15,7 @@ use Rattle.crs_said.specs.Claims.{Said}
 use Rattle.reg_sense.specs.declared.rule.WideRule.{WideRule}
 use Rattle.reg_sense.specs.declared.rule.WideRule.TheVariants as the
 use Rattle.reg_sense.specs.Claimants.{Voice, is_about, is_claim, first_told}
-use Rattle.reg_sense.specs.Keys.{class_of, digits_of, code_cmp, key_cmp, is_before, has_same_key}
+use Rattle.reg_sense.specs.Keys.{class_of, digits_of, rank_of, authority_cmp, code_cmp, key_cmp, is_before, has_same_key}
 use Rattle.reg_sense.specs.Laws.{HaveSameNames}
 use Rattle.reg_sense.specs.Least.{least}
 use Rattle.reg_sense.specs.Most.{count, contents, most_cmp, is_more, all_claims, most, otherwise, against_maybe, odd_told}
@@ -79,10 +79,11 @@ key_of v = (v.authority, v.code)
 
 one_key : (t u : Voice) → is_before t u ≡ false → is_before u t ≡ false → key_of t ≡ key_of u
 one_key t u p q =
-    let e = both_equal (slice_cmp nat_cmp t.authority u.authority) (code_cmp t.code u.code) (tied key_cmp key_total t u p q) in
+    let e = both_equal (authority_cmp t.authority u.authority) (code_cmp t.code u.code) (tied key_cmp key_total t u p q) in
+    let a = both_equal (nat_cmp (rank_of t.authority) (rank_of u.authority)) (slice_cmp nat_cmp t.authority u.authority) e.0 in
     let f = both_equal (nat_cmp (class_of t.code) (class_of u.code)) (ordering_then (nat_cmp (digits_of t.code) (digits_of u.code)) (slice_cmp nat_cmp t.code u.code)) e.1 in
     let g = both_equal (nat_cmp (digits_of t.code) (digits_of u.code)) (slice_cmp nat_cmp t.code u.code) f.1 in
-    (λ j. (one_text t.authority u.authority e.0 j, one_text t.code u.code g.1 j))
+    (λ j. (one_text t.authority u.authority a.1 j, one_text t.code u.code g.1 j))
 
 -- whether it is another key
 abbrev is_another : Voice → Option (List ℕ × List ℕ) → Bool

@@ -12,7 +12,7 @@ use Rattle.std.specs.Str.{bytes_eq}
 use Rattle.crs_said.specs.Claims.{Said}
 use Rattle.reg_sense.specs.declared.claimant.Claimant.{Claimant}
 use Rattle.reg_sense.specs.Claimants.{Voice, voice, is_about}
-use Rattle.reg_sense.specs.Keys.{class_of, digits_of, code_cmp, key_cmp, is_before}
+use Rattle.reg_sense.specs.Keys.{class_of, digits_of, rank_of, authority_cmp, code_cmp, key_cmp, is_before}
 use Rattle.reg_sense.specs.Least.{least, lesser}
 use Rattle.reg_sense.specs.Tallies.{bytes_cmp}
 use Rattle.reg_sense.specs.Twins.{saying, voice_in}
@@ -21,8 +21,11 @@ use Rattle.reg_sense.proofs.LeastLemmas.{least_cons, lesser_twice}
 code_total : IsTotalOrder code_cmp
 code_total = then_total (on_total class_of nat_cmp_total) (then_total (on_total digits_of nat_cmp_total) nat_list_cmp_total)
 
+authority_total : IsTotalOrder authority_cmp
+authority_total = then_total (on_total rank_of nat_cmp_total) nat_list_cmp_total
+
 pub key_total : IsTotalOrder key_cmp
-key_total = then_total (on_total (λ (v : Voice). v.authority) nat_list_cmp_total) (on_total (λ (v : Voice). v.code) code_total)
+key_total = then_total (on_total (λ (v : Voice). v.authority) authority_total) (on_total (λ (v : Voice). v.code) code_total)
 
 pub key_ranks : IsStrictWeakOrder is_before
 key_ranks = ranks_by key_total (λ v. v)

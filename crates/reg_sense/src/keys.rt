@@ -2,7 +2,7 @@
 
 ghost use Rattle.std.specs.Prelude.{◌≡◌};
 ghost use Rattle.reg_sense.specs.Claimants.{voice};
-ghost use Rattle.reg_sense.specs.Keys.{is_digit, is_number, class_of, digits_of, code_cmp, is_before, has_same_key};
+ghost use Rattle.reg_sense.specs.Keys.{is_digit, is_number, class_of, digits_of, rank_of, authority_cmp, code_cmp, is_before, has_same_key};
 
 use crate::claimant::Claimant;
 use std::cmp::Ordering;
@@ -46,13 +46,28 @@ fn compare_codes(left: &[u8], right: &[u8]) -> Ordering
     )
 }
 
+// 0 for EPSG, which others copy.
+fn rank_of(authority: &[u8]) -> usize
+    ensures { result ≡ rank_of authority.now }
+{
+    let first: &[u8] = b"EPSG";
+    if authority == first {
+        return 0;
+    }
+    1
+}
+
+fn compare_authorities(left: &[u8], right: &[u8]) -> Ordering
+    ensures { result ≡ authority_cmp left.now right.now }
+{
+    rank_of(left).cmp(&rank_of(right)).then(left.cmp(right))
+}
+
 /// Whether the key on the left is the lesser.
 pub(crate) fn is_before(left: &Claimant, right: &Claimant) -> bool
     ensures { result ≡ is_before (voice left.now) (voice right.now) }
 {
-    left.authority
-        .as_slice()
-        .cmp(right.authority.as_slice())
+    compare_authorities(left.authority.as_slice(), right.authority.as_slice())
         .then(compare_codes(left.code.as_slice(), right.code.as_slice()))
         .is_lt()
 }

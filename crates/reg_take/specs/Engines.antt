@@ -70,10 +70,12 @@ IsUnloaded a admission how next old new f = (a.none f × (new ≡ old))
     ⊎ ((x : Content) × a.came x × (IsStopped how next old new f ⊎ IsUnadmitted admission how next old new x f))
 
 -- the first register was read, and admitted; the files were joined to it, except those that are left out, which gave the second one;
--- and the rows that changed were written. Where offices are named, the entries that are retired in the files are returned
+-- and the rows that changed were written. What the files gave is returned and, where offices are named, the entries that are retired in
+-- them
 abbrev pub IsTaken : Way → Admission → TakeOptions → ℕ → List FileState → List FileState → TakeEffect → Type 0
 IsTaken w admission how next old new t = (z : Content) × (lines : List ℕ) × Admits admission t.before z × Takes how next old new z t.after t.left.items
     × IsDiff t.before t.after lines × w.gave t.before t.after lines × AreRetired how next old new t.retired.items
+    × AreArrivals how next old new t.arrivals.items
 
 -- the files were read, and cannot be joined to the admitted register
 abbrev pub IsUnjoinable : Admission → TakeOptions → ℕ → List FileState → List FileState → Content → CliFault → Type 0

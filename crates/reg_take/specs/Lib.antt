@@ -4,5 +4,6 @@ pub mod Taken
 pub mod Take
 pub mod Engines
 pub mod Own
+pub mod Inputs
 pub mod Merging
 pub mod Catching

@@ -1,5 +1,6 @@
 //! What a take did.
 
+use crate::files::Arrival;
 use crate::taking::LeftOut;
 use reg_op::OpId;
 use reg_state::Register;
@@ -16,4 +17,6 @@ pub struct TakeEffect {
     /// Where offices are named: the entries that are retired in the files, in their order. What the named offices had said of such an
     /// entry may be in the file no more, since its retirement makes that redundant.
     pub retired: Vec<OpId>,
+    /// What the files gave, in their order.
+    pub arrivals: Vec<Arrival>,
 }

@@ -123,6 +123,7 @@ pub fn run_take<T: Keep, S: LateSource, K: Sink>(
             after,
             left,
             retired,
+            arrivals,
         }),
         Err(fault) => Err(fault),
     }
@@ -166,6 +167,7 @@ pub fn try_take<T: Store, S: LateSource, K: Sink>(
             after,
             left,
             retired,
+            arrivals,
         }),
         Err(fault) => Err(fault),
     }

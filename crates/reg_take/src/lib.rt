@@ -7,6 +7,7 @@ mod at_once;
 mod effect;
 mod engine;
 mod files;
+mod inputs;
 pub mod laws;
 mod loading;
 pub mod merge;
@@ -19,5 +20,6 @@ mod taking;
 
 pub use effect::TakeEffect;
 pub use engine::{run_take, try_take};
+pub use inputs::inputs_of;
 pub use options::TakeOptions;
 pub use taking::LeftOut;

@@ -1,3 +1,6 @@
 pub mod Chain
 pub mod Listed
 pub mod Offices
+pub mod Over
+pub mod Sayings
+pub mod Voices

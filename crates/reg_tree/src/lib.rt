@@ -6,6 +6,7 @@ mod needs;
 pub mod offices;
 mod pieces;
 mod registers;
+pub mod undone;
 
 pub use pieces::join_pieces;
 pub use registers::join_registers;

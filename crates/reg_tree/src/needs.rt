@@ -20,7 +20,8 @@ pub struct Needs {
     pub seen: Seen,
 }
 
-fn union(alloc: Global, one: &Seen, other: &Seen) -> Result<Seen, AllocError>
+/// All ids of both.
+pub fn union(alloc: Global, one: &Seen, other: &Seen) -> Result<Seen, AllocError>
     ensures { IfOk result (λ both. both ≡ set.union one.now other.now) }
 {
     match one.join(alloc, other) {

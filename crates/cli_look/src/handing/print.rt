@@ -20,7 +20,7 @@ pub fn show(rt: &HostRuntime, matches: &ArgMatches<'_>) -> Result<(), CliFault> 
 }
 
 fn show_entry(rt: &HostRuntime, matches: &ArgMatches<'_>) -> Result<(), CliFault> {
-    match entry(word(matches, "ENTRY")) {
+    match entry(rt, matches, word(matches, "ENTRY")) {
         Ok(entry) => print_of(rt, matches, &Show { entry }),
         Err(fault) => Err(fault),
     }
@@ -37,7 +37,7 @@ pub fn wkt(rt: &HostRuntime, matches: &ArgMatches<'_>) -> Result<(), CliFault> {
 
 fn wkt_entry(rt: &HostRuntime, matches: &ArgMatches<'_>) -> Result<(), CliFault> {
     let form = form(matches);
-    match entry(word(matches, "ENTRY")) {
+    match entry(rt, matches, word(matches, "ENTRY")) {
         Ok(entry) => print_of(rt, matches, &Wkt { entry, form }),
         Err(fault) => Err(fault),
     }

@@ -10,9 +10,8 @@ use crate::merge::merged::Merged;
 use byte_out::{Input, Place, first_kept};
 use reg_engine::{CliFault, Parts, publish_register, read_parts};
 use std::alloc::Global;
-use std::mem::forget;
 
-/// Does what `run_merge` does, and returns the registers and their join. The memory of the pieces is not freed.
+/// Does what `run_merge` does, and returns the registers, the pieces and their join.
 pub fn merge_files<S: Input, P: Place>(
     alloc: Global,
     sources: &mut [S],
@@ -39,8 +38,11 @@ pub fn merge_files<S: Input, P: Place>(
     match publish_register(alloc, &joined, read, place) {
         Ok(()) => {
             let Parts { registers, pieces } = parts;
-            forget(pieces);
-            Ok(Merged { registers, joined })
+            Ok(Merged {
+                registers,
+                pieces,
+                joined,
+            })
         }
         Err(fault) => Err(fault),
     }

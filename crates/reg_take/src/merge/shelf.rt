@@ -11,10 +11,8 @@ use byte_disk::Disk;
 use byte_io::Source;
 use reg_engine::{CliFault, Parts, keep_on, parts_of, read_parts_after, restore_from};
 use std::alloc::Global;
-use std::mem::forget;
 
-/// Does what `run_merge_on` does, and returns the registers, that of the shelf first, and their join. The memory of the pieces is not
-/// freed.
+/// Does what `run_merge_on` does, and returns the registers, that of the shelf first, the pieces and the join.
 pub fn merge_shelf<D: Disk, S: Source>(
     alloc: Global,
     disk: &mut D,
@@ -44,8 +42,11 @@ pub fn merge_shelf<D: Disk, S: Source>(
     match keep_on(alloc, disk, &joined) {
         Ok(()) => {
             let Parts { registers, pieces } = parts;
-            forget(pieces);
-            Ok(Merged { registers, joined })
+            Ok(Merged {
+                registers,
+                pieces,
+                joined,
+            })
         }
         Err(fault) => Err(fault),
     }

@@ -44,6 +44,7 @@ returns-in-Ok-keep_changed-clause-taken g c =
       c.in-Ok-make_ready.ensures.lines,
       subst (λ (t : List ℕ). w.gave l.register made.register t) c.deref-2.ensures.value gave,
       c.in-Ok.ensures.loaded.3,
+      c.in-Ok.ensures.loaded.1,
     )
 
 pub returns-in-Err-keep_changed-clause-fault : goal.returns-in-Err-keep_changed-clause-fault

@@ -45,6 +45,7 @@ returns-in-Ok-tell_fitting-clause-taken g c =
       c.in-Ok-make_ready.ensures.lines,
       (c.in-Ok.ensures.loaded.0, same_or_fits l.register made.register made.is_same c.in-Ok-make_ready.ensures.same c.in-Ok-tell_fitting.ensures.fits, all),
       c.in-Ok.ensures.loaded.3,
+      c.in-Ok.ensures.loaded.1,
     )
 
 pub returns-in-Err-tell_fitting-clause-fault : goal.returns-in-Err-tell_fitting-clause-fault

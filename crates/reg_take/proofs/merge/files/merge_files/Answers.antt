@@ -30,6 +30,7 @@ returns-in-Ok-publish_register-clause-merged g c =
       found.0,
       found.1,
       found.2,
+      found.3,
       of_parts found.0 _ _ found.2 found.3 ∙ c.in-Ok-join_parts.ensures.ok,
       subst (λ (r : Option (List ℕ)). PublishesFile c.in-Ok-join_parts.joined r (g.P.Place.state c.args.place.now) (g.P.Place.state c.publish_register.new.place)) c.in-Ok-first_kept.ensures c.in-Ok-publish_register.ensures.published,
     )

@@ -34,7 +34,7 @@ returns-in-Ok-keep_on-clause-merged g c =
     let gave = gives_from _ (c.in-Ok.register ∷ []) _ [] _ _ _ _ c.in-Ok-parts_of.ensures.registers c.in-Ok-parts_of.ensures.pieces c.in-Ok-read_parts_after.ensures.found in (
       c.in-Ok.register,
       c.in-Ok.ensures.found,
-      (gave.0, gave.1, (gave.2, of_parts (part.Register c.in-Ok.register ∷ gave.0) _ _ gave.2 gave.3 ∙ c.in-Ok-join_parts.ensures.ok)),
+      (gave.0, gave.1, (gave.2, gave.3, of_parts (part.Register c.in-Ok.register ∷ gave.0) _ _ gave.2 gave.3 ∙ c.in-Ok-join_parts.ensures.ok)),
       kept_then (disks g.D.Disk.tells g.D.Disk.seen g.D.Disk.images g.D.Disk.moment g.D.Disk.images_since g.D.Disk.failures) c.args.disk.now c.restore_from.new.disk c.keep_on.new.disk c.in-Ok.ensures.tells c.in-Ok.ensures.stays c.in-Ok.ensures.sure c.in-Ok.register c.in-Ok.ensures.found c.in-Ok-join_parts.joined c.in-Ok-keep_on.ensures.kept,
     )
 

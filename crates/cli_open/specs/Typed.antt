@@ -1,0 +1,10 @@
+-- Which entry a word of the command line names.
+use Rattle.std.specs.Prelude.{◌≡◌, ◌⊎◌, ℕ, List, Some}
+use Rattle.csv_table.specs.Typed.{typed}
+use Rattle.csv_table.specs.declared.offices.names.Name.{Name}
+use Rattle.reg_op.specs.Ids.{Id}
+use Rattle.reg_op.specs.Text.{Spells}
+
+-- the word is the id, or is the id with the name of an office in the place of the UUID
+abbrev pub NamesEntry : List Name → List ℕ → Id → Type 0
+NamesEntry names word i = Spells word i ⊎ ((text : List ℕ) × (typed names word ≡ Some text) × Spells text i)
