@@ -6,4 +6,6 @@ mod LossyLemmas
 mod ReadLemmas
 mod HiddenLemmas
 mod NamesReadLemmas
+mod StandingLemmas
+mod FoundLemmas
 mod ShownLemmas

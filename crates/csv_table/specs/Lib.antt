@@ -4,6 +4,7 @@ pub mod Table
 pub mod Records
 pub mod Answer
 pub mod Names
+pub mod Standing
 pub mod Reading
 pub mod Shown
 pub mod Sheets

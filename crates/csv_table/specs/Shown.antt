@@ -26,9 +26,12 @@ abbrev pub found : List Name → List ℕ → Bool → Option Name
 found names text starts = if starts then find (begins names text) names else None
 
 -- what stands in the place of the first byte, and how many bytes after it are left out; with `keeps`, the UUID follows in parentheses
+abbrev pub put_name : Bool → List ℕ → List ℕ → List ℕ
+put_name keeps name office = name ++ (if keeps then (32 ∷ 40 ∷ []) ++ office ++ (41 ∷ []) else [])
+
 abbrev pub put : Bool → Option Name → ℕ → List ℕ
 put keeps None b = b ∷ []
-put keeps (Some n) b = n.name.items ++ (if keeps then (32 ∷ 40 ∷ []) ++ n.office.items ++ (41 ∷ []) else [])
+put keeps (Some n) b = put_name keeps n.name.items n.office.items
 
 abbrev pub left_out : Option Name → ℕ
 left_out None = 0

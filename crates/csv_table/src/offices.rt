@@ -6,6 +6,7 @@ mod names;
 mod reading;
 mod rows;
 mod shown;
+mod standing;
 
 pub use fault::NamesFault;
 pub use names::Name;

@@ -6,7 +6,8 @@ ghost use Rattle.csv_table.specs.Shown.{shown, sheet, AreShown};
 ghost use Rattle.csv_table.specs.Sheets.{IsReady, WritesRow};
 
 use crate::offices::names::Name;
-use crate::offices::shown::named;
+use crate::offices::shown::named_in;
+use crate::offices::standing::Names;
 use crate::records::{fields, records};
 use csv::{ByteRecord, Writer};
 use std::alloc::{AllocError, Global};
@@ -24,14 +25,15 @@ pub fn with_names(
     let Ok(records) = records(alloc, rows) else {
         return Err(AllocError);
     };
-    let text = sheet(alloc, keeps, names, &records)?;
+    let names = Names::indexed(alloc, names)?;
+    let text = sheet(alloc, keeps, &names, &records)?;
     Ok(text)
 }
 
 fn sheet(
     alloc: Global,
     keeps: bool,
-    names: &[Name],
+    names: &Names<'_>,
     records: &[ByteRecord],
 ) -> Result<Vec<u8>, AllocError>
     ensures { IfOk result (λ text. text.items ≡ sheet keeps names.now (map fields_of records.now)) }
@@ -50,7 +52,7 @@ fn write_record(
     alloc: Global,
     wtr: &mut Writer<Vec<u8>>,
     keeps: bool,
-    names: &[Name],
+    names: &Names<'_>,
     row: &ByteRecord,
 ) -> Result<(), AllocError>
     requires { IsReady wtr.old }
@@ -65,14 +67,14 @@ fn write_record(
 fn named_fields(
     alloc: Global,
     keeps: bool,
-    names: &[Name],
+    names: &Names<'_>,
     fields: &[&[u8]],
 ) -> Result<Vec<Vec<u8>>, AllocError>
     ensures { IfOk result (λ made. map (λ field. field.items) made.items ≡ map (shown keeps names.now) (map (λ field. field.now) fields.now)) }
 {
     let mut made = Vec::new(alloc);
     for field in fields {
-        made.push(named(alloc, keeps, names, field)?)?;
+        made.push(named_in(alloc, keeps, names, field)?)?;
     }
     Ok(made)
 }

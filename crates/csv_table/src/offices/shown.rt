@@ -1,13 +1,29 @@
 //! Texts with names in the place of UUIDs.
 
-ghost use Rattle.std.specs.Prelude.{◌≡◌, ◌++◌, ◌∷◌, IfOk, OnOk, List, ℕ, Some, option_map};
-ghost use Rattle.csv_table.specs.Shown.{is_gap, ends, begins, found, put, left_out, shown_from, shown};
+ghost use Rattle.std.specs.Prelude.{◌≡◌, ◌++◌, ◌∷◌, IfOk, OnOk, List, ℕ, take, drop, option_map};
+ghost use Rattle.csv_table.specs.declared.offices.names.Name.{Name as Row};
+ghost use Rattle.csv_table.specs.Standing.{given_in};
+ghost use Rattle.csv_table.specs.Shown.{is_gap, ends, found, put, put_name, left_out, shown_from, shown};
 
-use crate::offices::names::{Name, stands};
+use crate::offices::names::Name;
+use crate::offices::standing::Names;
 use std::alloc::{AllocError, Global};
 
 /// The text with names in the place of the UUIDs of offices. With `keeps`, the UUID follows its name in parentheses.
 pub fn named(alloc: Global, keeps: bool, names: &[Name], text: &[u8]) -> Result<Vec<u8>, AllocError>
+    ensures { IfOk result (λ out. out.items ≡ shown keeps names.now text.now) }
+{
+    let names = Names::listed(names);
+    named_in(alloc, keeps, &names, text)
+}
+
+/// The same, one of many texts.
+pub fn named_in(
+    alloc: Global,
+    keeps: bool,
+    names: &Names<'_>,
+    text: &[u8],
+) -> Result<Vec<u8>, AllocError>
     ensures { IfOk result (λ out. out.items ≡ shown keeps names.now text.now) }
 {
     let mut out = Vec::new(alloc);
@@ -27,7 +43,7 @@ pub fn named(alloc: Global, keeps: bool, names: &[Name], text: &[u8]) -> Result<
 fn push_next(
     out: &mut Vec<u8>,
     keeps: bool,
-    names: &[Name],
+    names: &Names<'_>,
     rest: &[u8],
     byte: u8,
     skip: usize,
@@ -45,7 +61,7 @@ fn push_next(
 fn push_here(
     out: &mut Vec<u8>,
     keeps: bool,
-    names: &[Name],
+    names: &Names<'_>,
     rest: &[u8],
     byte: u8,
     starts: bool,
@@ -55,8 +71,9 @@ fn push_here(
 {
     match found(names, rest, starts) {
         Some(name) => {
-            push_name(out, keeps, name)?;
-            Ok(name.office.len().saturating_sub(1))
+            let (office, _) = split(rest);
+            push_name(out, keeps, name, office)?;
+            Ok(office.len().saturating_sub(1))
         }
         None => {
             out.push(byte)?;
@@ -65,42 +82,41 @@ fn push_here(
     }
 }
 
-fn push_name(out: &mut Vec<u8>, keeps: bool, name: &Name) -> Result<(), AllocError>
-    ensures { OnOk result (out.new.items ≡ out.old.items ++ put keeps (Some name.now) 0) }
+fn push_name(out: &mut Vec<u8>, keeps: bool, name: &[u8], office: &[u8]) -> Result<(), AllocError>
+    ensures { OnOk result (out.new.items ≡ out.old.items ++ put_name keeps name.now office.now) }
 {
-    out.extend_from_slice(&name.name)?;
+    out.extend_from_slice(name)?;
     if !keeps {
         return Ok(());
     }
     out.extend_from_slice(b" (")?;
-    out.extend_from_slice(&name.office)?;
+    out.extend_from_slice(office)?;
     out.push(b')')?;
     Ok(())
 }
 
+// What a UUID at the beginning of the text would be, and what is behind it.
+fn split(text: &[u8]) -> (&[u8], &[u8])
+    ensures { (result.0.now ≡ take 36 text.now) × (result.1.now ≡ drop 36 text.now) }
+{
+    if text.len() < 36 {
+        return text.split_at(text.len());
+    }
+    text.split_at(36)
+}
+
 // The name at the beginning of the text, if a word begins there.
-fn found<'n>(names: &'n [Name], text: &[u8], starts: bool) -> Option<&'n Name>
-    ensures { option_map (λ n. n.now) result ≡ found names.now text.now starts }
+fn found<'n>(names: &Names<'n>, text: &[u8], starts: bool) -> Option<&'n [u8]>
+    ensures { given_in result ≡ option_map (λ (n : Row). n.name.items) (found names.now text.now starts) }
 {
     if !starts {
         return None;
     }
-    for name in names {
-        if begins(names, text, name) {
-            return Some(name);
-        }
+    let (office, rest) = split(text);
+    if !ends(rest) {
+        return None;
     }
-    None
-}
-
-// Whether the text begins with the UUID of this row, and its name stands for it.
-fn begins(names: &[Name], text: &[u8], name: &Name) -> bool
-    ensures { result ≡ begins names.now text.now name.now }
-{
-    match text.strip_prefix(name.office.as_slice()) {
-        Some(rest) => ends(rest) && stands(names, name),
-        None => false,
-    }
+    names.name_of(office)
 }
 
 fn ends(rest: &[u8]) -> bool

@@ -1,6 +1,6 @@
 use Rattle.std.proofs.Common.{◌≡◌, ◌++◌, length}
 use Rattle.csv_table.specs.Shown.{shown, shown_from}
-use Rattle.csv_table.proofs.offices.shown.named.Given as goal
+use Rattle.csv_table.proofs.offices.shown.named_in.Given as goal
 
 -- the text so far, followed by what the rest becomes, is the whole text
 abbrev pub invariant-loop-byte : goal.invariant-loop-byte

@@ -1,6 +1,6 @@
 use Rattle.std.proofs.Common.{◌∙◌, sym}
 use Rattle.csv_table.proofs.ShownLemmas.{ended}
-use Rattle.csv_table.proofs.offices.shown.named.Goals as goal
+use Rattle.csv_table.proofs.offices.shown.named_in.Goals as goal
 
 pub returns : goal.returns
 returns c =
