@@ -1,6 +1,7 @@
 pub mod DiffLemmas
 pub mod PartLemmas
 pub mod LookLemmas
+mod OldRows
 pub mod StatusLemmas
 mod SettleLemmas
 pub mod ImportFileLemmas

@@ -7,6 +7,7 @@ mod files;
 mod first;
 mod linked;
 mod notes;
+mod olds;
 mod options;
 mod progress;
 mod ready;

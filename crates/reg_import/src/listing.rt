@@ -122,6 +122,17 @@ fn gone_rows(
     }
 }
 
+// Some rows, each lent.
+fn lent(alloc: Global, rows: &[Row]) -> Result<Vec<&Row>, AllocError>
+    ensures { IfOk result (λ lent. map (λ r. row_seen r.now) lent.items ≡ map row_seen rows.now) }
+{
+    let mut lent = Vec::new(alloc);
+    for row in rows {
+        lent.push(row)?;
+    }
+    Ok(lent)
+}
+
 // Writes the line of an entry, with this action.
 fn write_entry(
     alloc: Global,
@@ -156,15 +167,13 @@ fn write_entries(
     alloc: Global,
     wtr: &mut Writer<Vec<u8>>,
     action: &[u8],
-    rows: &[Row],
+    rows: &[&Row],
 ) -> Result<(), AllocError>
     requires { IsReady wtr.old }
-    ensures { OnOk result (WritesLines (IsEntryLine action.now) (map row_seen rows.now) wtr.old wtr.new) }
+    ensures { OnOk result (WritesLines (IsEntryLine action.now) (map (λ r. row_seen r.now) rows.now) wtr.old wtr.new) }
 {
-    let mut rest = rows;
-    while let Some((row, others)) = rest.split_first() {
-        write_entry(alloc, wtr, action, row)?;
-        rest = others;
+    for row in rows {
+        write_entry(alloc, wtr, action, *row)?;
     }
     Ok(())
 }
@@ -199,8 +208,8 @@ fn texts_text(
 }
 
 // The lines of these entries.
-fn entries_text(alloc: Global, action: &[u8], rows: &[Row]) -> Result<Vec<u8>, AllocError>
-    ensures { IfOk result (λ text. AreLines (IsEntryLine action.now) (map row_seen rows.now) text.items) }
+fn entries_text(alloc: Global, action: &[u8], rows: &[&Row]) -> Result<Vec<u8>, AllocError>
+    ensures { IfOk result (λ text. AreLines (IsEntryLine action.now) (map (λ r. row_seen r.now) rows.now) text.items) }
 {
     let mut wtr = Writer::from_writer(Vec::new(alloc));
     write_entries(alloc, &mut wtr, action, rows)?;
@@ -214,10 +223,10 @@ fn entries_text(alloc: Global, action: &[u8], rows: &[Row]) -> Result<Vec<u8>, A
 fn pack_entries(
     alloc: Global,
     action: &[u8],
-    rows: &[Row],
+    rows: &[&Row],
     lines: PackedRows,
 ) -> Result<PackedRows, AllocError>
-    ensures { IfOk result (PacksLines (IsEntryLine action.now) (map row_seen rows.now) lines) }
+    ensures { IfOk result (PacksLines (IsEntryLine action.now) (map (λ r. row_seen r.now) rows.now) lines) }
 {
     let text = entries_text(alloc, action, rows)?;
     lines.with(&text)
@@ -342,10 +351,10 @@ impl ImportLines {
         alloc: Global,
         listing: &Listing<'_>,
         register: &Register,
-        linked: &[Row],
+        linked: &[&Row],
     ) -> Result<PackedRows, AllocError>
         ensures { IfOk result (λ rows. (texts : List FileText) (ts : List TextAction) → HasListed listing.now texts ts self
-            → IsListing listing.now register.now.ops texts ts (map row_seen linked.now) rows) }
+            → IsListing listing.now register.now.ops texts ts (map (λ r. row_seen r.now) linked.now) rows) }
     {
         let settled = self.settled(alloc, listing)?;
         let ImportLines {
@@ -357,6 +366,7 @@ impl ImportLines {
         let rows = Box::into_inner(packed);
         let rows = pack_entries(alloc, b"linked", linked, rows)?;
         let gone = gone_rows(alloc, listing, register, &keys)?;
+        let gone = lent(alloc, &gone)?;
         let rows = pack_entries(alloc, b"gone", &gone, rows)?;
         Ok(rows)
     }

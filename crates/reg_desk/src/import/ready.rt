@@ -14,16 +14,17 @@ use crate::import::fault::Unimported;
 use crate::import::files::read_files;
 use crate::import::first::run_out;
 use crate::import::linked::{Linked, link_on};
+use crate::import::olds::old_rows;
 use crate::import::options::ImportOptions;
 use crate::import::progress::{Progress, listing_of, start};
 use crate::import::texts::take_texts;
 use byte_io::Source;
 use byte_packed::PackedRows;
-use reg_disorder::linking::old_rows;
 use reg_engine::{CliFault, Refusal, Store};
 use reg_import::ImportLines;
 use reg_office::OfficeFault;
 use reg_op::Note;
+use reg_report::rows;
 use reg_state::Register;
 use std::alloc::{AllocError, Global};
 
@@ -63,8 +64,14 @@ fn lines_of(
     ensures { IfOk result (λ rows. (texts : List FileText) (ts : List TextAction) → HasListed (listing_of options.now) texts ts lines
         → AreLines options.now linked.now.register.ops texts ts linked.now.links.items rows) }
 {
-    let rows = old_rows(alloc, &linked.register, &linked.links)?;
-    let lines = lines.finish(alloc, &listing_of(options), &linked.register, &rows)?;
+    let listing = listing_of(options);
+    if linked.links.is_empty() {
+        let lines = lines.finish(alloc, &listing, &linked.register, &[])?;
+        return Ok(lines);
+    }
+    let rows = rows(alloc, &linked.register)?;
+    let olds = old_rows(alloc, &rows, &linked.links)?;
+    let lines = lines.finish(alloc, &listing, &linked.register, &olds)?;
     Ok(lines)
 }
 

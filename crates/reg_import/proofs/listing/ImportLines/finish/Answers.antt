@@ -1,4 +1,7 @@
-use Rattle.std.proofs.Common.{List, ℕ, map, filter, subst, sym, refl}
+use Rattle.std.proofs.Common.{List, ℕ, map, filter, subst, sym, ap, ◌∙◌, refl}
+use Rattle.std.specs.Borrow.{Bor}
+use Rattle.reg_op.specs.Rows.{Row as OneRow}
+use Rattle.reg_report.specs.declared.row.Row.{Row}
 use Rattle.std.specs.String.{string_bytes}
 use Rattle.reg_report.specs.Seen.{row_seen}
 use Rattle.csv.specs.Writing.{row_text, default_writer}
@@ -17,6 +20,6 @@ returns c = λ texts ts h.
     let rows = c.into_inner-rows.result in
     let lines = subst (λ (r : List ℕ). PacksLines (IsImportLine (map string_bytes l.names.now)) (filter (is_shown l.changes) (lines_of texts ts)) (row_text default_writer import_header) r) (sym c.into_inner-rows.ensures)
     (listed_lines l texts ts w c.in_ok-settled.ensures.texts c.in_ok-settled.ensures.told now) in
-    whole_listing l c.args.register.now.ops texts ts (map row_seen c.args.linked.now) (map row_seen c.in_ok-gone.gone.items) _ rows c.in_ok-rows.rows
+    whole_listing l c.args.register.now.ops texts ts (map (λ (r : Bor Row). row_seen r.now) c.args.linked.now) (map row_seen c.in_ok-gone.gone.items) _ rows c.in_ok-rows.rows
     c.in_ok-rows-2.rows refl lines c.in_ok-rows.ensures (c.in_ok-gone.ensures (readings texts) now.keys)
-    (subst (λ rs. PacksLines IsGoneLine (map row_seen rs) c.in_ok-rows.rows c.in_ok-rows-2.rows) c.deref.ensures.value c.in_ok-rows-2.ensures)
+    (subst (λ (rs : List OneRow). PacksLines IsGoneLine rs c.in_ok-rows.rows c.in_ok-rows-2.rows) (ap (map (λ (r : Bor Row). row_seen r.now)) c.deref-2.ensures.value ∙ c.in_ok-gone-2.ensures ∙ ap (map row_seen) c.deref.ensures.value) c.in_ok-rows-2.ensures)
