@@ -30,7 +30,7 @@ use Rattle.reg_report.proofs.ReportLemmas.{one_line, same_lines}
 
 -- ---- the operation of a row
 
-abbrev rows_in : Ops → List Op → List Row
+abbrev pub rows_in : Ops → List Op → List Row
 rows_in s os = flat_map (λ (o : Op). rows_at s o.id o.body) os
 
 row_at : (s : Ops) (o : Op) (b : Body) (r : Row) → o.body ≡ b → Contains (rows_at s o.id b) r → o ≡ entering r.entry r.definition o.note
@@ -59,13 +59,13 @@ row_is_spelled x is r h =
 
 -- ---- the rows of one entry
 
-abbrev of_entry : Id → List Row → List Row
+abbrev pub of_entry : Id → List Row → List Row
 of_entry e rs = filter (λ (r : Row). is_same e r.entry) rs
 
-of_both : (e : Id) (rs qs : List Row) → of_entry e (rs ++ qs) ≡ of_entry e rs ++ of_entry e qs
+pub of_both : (e : Id) (rs qs : List Row) → of_entry e (rs ++ qs) ≡ of_entry e rs ++ of_entry e qs
 of_both e rs qs = filter-append (λ (r : Row). is_same e r.entry) rs qs
 
-of_other : (s : Ops) (e i : Id) (b : Body) → is_same e i ≡ false → of_entry e (rows_at s i b) ≡ []
+pub of_other : (s : Ops) (e i : Id) (b : Body) → is_same e i ≡ false → of_entry e (rows_at s i b) ≡ []
 of_other s e i (Enter text) n = ap (λ t. cond t (rows_at s i (Enter text)) []) n
 of_other s e i (Supersede old newer) n = refl
 of_other s e i (Retire entry) n = refl

@@ -1,6 +1,7 @@
 pub mod SortLemmas
 pub mod WindowLemmas
 pub mod PairLemmas
+pub mod MarkLemmas
 pub mod AwaitedLemmas
 pub mod SheetLemmas
 pub mod GapLemmas

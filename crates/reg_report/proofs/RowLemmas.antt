@@ -1,7 +1,7 @@
 -- The rows of a content ascend by entry, each with the status of its entry; and which of ascending rows come earlier.
-use Rattle.std.proofs.Common.{◌≡◌, ℕ, ◌≤◌, true, false, List, [], ◌∷◌, ◌++◌, map, take, length, refl, sym, ap, ◌∙◌, subst, inl, inr}
+use Rattle.std.proofs.Common.{◌≡◌, ℕ, ◌≤◌, true, false, List, [], ◌∷◌, ◌++◌, map, take, length, Some, refl, sym, ap, ◌∙◌, subst, inl, inr}
 use Rattle.std.proofs.lemmas.Bool.{true≢false}
-use Rattle.std.proofs.lemmas.List.{take_all}
+use Rattle.std.proofs.lemmas.List.{take_all, map-append}
 use Rattle.std.proofs.lemmas.List.Elements.{Contains-append_cases}
 use Rattle.std.specs.List.{Contains, flat_map}
 use Rattle.std.specs.Cmp.{IsTotalOrder, on_total}
@@ -63,6 +63,15 @@ rows_ascend x is = rows_ascend_in x.ops (set.items x.ops) (items_by_id x.ops is.
 -- so do the rows of the first k operations, if there are no more
 pub made_ascend : (x : Content) (os : List Op) (k : ℕ) (made : List MadeRow) → os ≡ set.items x.ops → length os ≤ k → map row_seen made ≡ rows_in x.ops (take k os) → IsContent x → Ascends row_cmp (map row_seen made)
 made_ascend x os k made e h is content = subst (Ascends row_cmp) (sym (is ∙ ap (λ l. rows_in x.ops l) (take_all k os h ∙ e))) (rows_ascend x content)
+
+-- ---- a row that is made
+
+pub row_made : (s : Ops) (o : Op) (old new : List MadeRow) (row : MadeRow) (text : List ℕ) (b : Body) → set.contains s o ≡ true → b ≡ o.body → b ≡ Enter text → new ≡ old ++ row ∷ [] → row.entry ≡ o.id
+    → row.definition ≡ text → (enters s o.id ≡ true → status s o.id ≡ Some row.status) → row.newer.items ≡ set.items (newer_of s o.id) → map row_seen new ≡ map row_seen old ++ rows_at s o.id o.body
+row_made s o old new row text b there is enter pushed at defined stands newer =
+    let status_is : Some row.status ≡ status s o.id = sym (stands (it_enters s o o.id text b there is enter refl)) in
+    ap (map row_seen) pushed ∙ map-append row_seen old (row ∷ [])
+    ∙ ap (λ l. map row_seen old ++ l) ((λ k. record { entry = at k; definition = defined k; status = status_is k; newer = newer k } ∷ []) ∙ ap (rows_at s o.id) (sym enter ∙ is))
 
 -- ---- the status of a row
 

@@ -1,5 +1,5 @@
 pub mod Names
-pub mod Pairs
+pub mod Marks
 pub mod Seen
 pub mod Rows
 pub mod Conflicts

@@ -7,10 +7,11 @@ ghost use Rattle.reg_op.specs.Rows.{rows};
 ghost use Rattle.reg_report.specs.declared.contender.Contender.{Contender as OneContender};
 ghost use Rattle.reg_report.specs.Conflicts.{AreConflicts};
 ghost use Rattle.reg_report.specs.Contenders.{contender_cmp, has_same_key, has_other_text, conflict_at, conflict_seen, Tells};
+ghost use Rattle.reg_report.specs.Seen.{row_seen};
 
 use crate::contender::{Contender, contenders_of, has_other_text, has_same_key};
 use crate::distinct::distinct;
-use crate::row::rows;
+use crate::row::{Row, rows};
 use crs_part::{Text, TryClone};
 use reg_op::OpId;
 use reg_state::Register;
@@ -30,7 +31,15 @@ pub fn conflicts(alloc: Global, register: &Register) -> Result<Vec<Conflict>, Al
     ensures { IfOk result (λ made. AreConflicts (rows register.now.ops) (map conflict_seen made.items)) }
 {
     let rows = rows(alloc, register)?;
-    let contenders = contenders_of(alloc, &rows)?;
+    let made = conflicts_in(alloc, &rows)?;
+    Ok(made)
+}
+
+/// The same among rows.
+pub fn conflicts_in(alloc: Global, rows: &[Row]) -> Result<Vec<Conflict>, AllocError>
+    ensures { IfOk result (λ made. AreConflicts (map row_seen rows.now) (map conflict_seen made.items)) }
+{
+    let contenders = contenders_of(alloc, rows)?;
     let made = conflicts_among(alloc, &contenders)?;
     Ok(made)
 }

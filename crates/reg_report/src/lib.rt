@@ -12,14 +12,14 @@ mod gap;
 mod key;
 pub mod laws;
 mod lines;
+mod marks;
 mod named;
 mod one_entry;
 mod row;
 mod sheet;
-mod supersession;
 mod writing;
 
-pub use conflict::{Conflict, conflicts};
+pub use conflict::{Conflict, conflicts, conflicts_in};
 pub use distinct::is_among;
 pub use entry::{is_entered, is_retired};
 pub use entry_lines::{entries_text, spaced, status_word};

@@ -7,32 +7,34 @@ ghost use Rattle.reg_report.specs.Seen.{row_seen};
 ghost use Rattle.reg_report.specs.Reports.{IsEntryReport, Reports, IsReportFault};
 
 use crate::entry_lines::entries_text;
-use crate::row::{Row, rows};
+use crate::marks::{leading, marks_of, skip_below};
+use crate::row::{Row, push_row};
 use crate::writing::ReportFault;
 use byte_io::{Sink, write_all};
-use reg_op::OpId;
+use reg_op::{Op, OpId};
 use reg_state::Register;
 use std::alloc::{AllocError, Global};
 
-fn is_of(row: &Row, entry: OpId) -> bool
-    ensures { result ≡ is_same entry row.now.entry }
+fn is_of(op: &Op, entry: OpId) -> bool
+    ensures { result ≡ is_same entry op.now.id }
 {
-    entry.is_same(&row.entry)
-}
-
-fn keep_those_of(rows: &mut Vec<Row>, entry: OpId)
-    ensures { rows.new.items ≡ filter (λ r. is_same entry r.entry) rows.old.items }
-{
-    rows.retain(|row| is_of(row, entry));
+    entry.is_same(&op.id())
 }
 
 // The entry's row, if it has one.
 fn rows_of(alloc: Global, register: &Register, entry: OpId) -> Result<Vec<Row>, AllocError>
     ensures { IfOk result (λ made. map row_seen made.items ≡ filter (λ (r : RowOf). is_same entry r.entry) (rows register.now.ops)) }
 {
-    let mut rows = rows(alloc, register)?;
-    keep_those_of(&mut rows, entry);
-    Ok(rows)
+    let ops = register.ops().as_slice();
+    let marks = marks_of(alloc, ops)?;
+    let own = leading(skip_below(&marks, entry), entry);
+    let mut made = Vec::new(alloc);
+    for op in ops {
+        if is_of(op, entry) {
+            push_row(alloc, &mut made, own, op)?;
+        }
+    }
+    Ok(made)
 }
 
 /// The line of one entry in the report of entries, with the header. Without such an entry, only the header.

@@ -1,5 +1,7 @@
-use Rattle.reg_report.proofs.PairLemmas.{it_enters}
+use Rattle.reg_report.proofs.RowLemmas.{row_made}
 use Rattle.reg_report.proofs.row.push_row.Goals as goal
 
-pub row_of-requires-clause-entered : goal.row_of-requires-clause-entered
-row_of-requires-clause-entered c = it_enters c.args.register.now.ops c.args.op.now c.id.result c.in-Enter.definition c.body.result.now c.requires.there c.body.ensures c.in-Enter.is c.id.ensures.value
+pub returns : goal.returns
+returns c = λ s there own.
+    row_made s c.args.op.now c.args.rows.now.items c.push.new.self.items _ c.in-Enter.definition c.body.result.now there c.body.ensures c.in-Enter.is c.in_ok-push.ensures.items c.id.ensures.value c.in_ok-definition.ensures
+    (λ there. c.status_by.ensures s c.args.op.now.id there own) (c.in_ok-newer.ensures s c.args.op.now.id own)
