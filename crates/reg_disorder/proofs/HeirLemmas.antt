@@ -3,7 +3,9 @@ use Rattle.std.proofs.Common.{◌≡◌, ◌≢◌, ◌↔◌, ◌⊎◌, ℕ, �
 use Rattle.std.proofs.lemmas.Bool.{true≢false, or_cases, or_left, or_right, false_from_ne_true}
 use Rattle.std.proofs.lemmas.List.{length-append, length-map}
 use Rattle.std.proofs.lemmas.List.Elements.{Contains-append_left, Contains-append_right, Contains-append_cases, Contains-push, Contains-push_cases}
+use Rattle.std.proofs.lemmas.List.Sorted.{Contains-permutation, IsPermutation-sym}
 use Rattle.std.proofs.lemmas.List.Sums.{sum_by-cons}
+use Rattle.std.specs.List.Sorted.{IsPermutation}
 use Rattle.std.specs.List.{Contains, list_any, count_by}
 use Rattle.std.specs.Cmp.{tied_itself}
 use Rattle.std.specs.Ordering.{is_eq}
@@ -14,7 +16,7 @@ use Rattle.reg_op.proofs.OpLemmas.{id_total, is_same_exact}
 use Rattle.reg_report.proofs.ConflictLemmas.{none_in, in_cons, in_head, in_tail, in_map, from_map}
 use Rattle.reg_disorder.specs.declared.link.OlderLink.{OlderLink}
 use Rattle.reg_disorder.specs.Disorders.{IsValid, IsSupersededBy, LeadsToValid, IsDangling}
-use Rattle.reg_disorder.specs.Heirs.{link_to, is_of, AreLinks, AddsValid, AreValid, IdSet, has_id, Visits, HasHeir, HasHeirs}
+use Rattle.reg_disorder.specs.Heirs.{link_to, is_of, AreLinks, AddsValid, AreValid, IdSet, has_id, Visits, AddsFirst, AreFirst, HasHeir, HaveHeirs}
 
 -- ---- valid entries
 
@@ -47,6 +49,33 @@ valid_more rs r old new adds are e = (λ h. to_row adds h, λ v. from_row adds v
       | inr last ↦ absurd (other (ap (λ (q : Row). q.status) last ∙ v.valid))
     ])
 
+pub valid_sorted : (rs : List Row) (ids sorted : List Id) → IsPermutation ids sorted → AreValid rs ids → AreValid rs sorted
+valid_sorted rs ids sorted p are e = (λ h. (are e).0 (Contains-permutation sorted ids e (IsPermutation-sym ids sorted p) h), λ v. Contains-permutation ids sorted e p ((are e).1 v))
+
+-- ---- what valid entries supersede
+
+pub none_first : (valid : List Id) → AreFirst valid [] []
+none_first valid e = (λ h. absurd (none_in e h), λ (x, there, is, v). absurd (none_in x there))
+
+pub first_more : (valid : List Id) (links : List OlderLink) (x : OlderLink) (old new : List Id) → AddsFirst valid x old new → AreFirst valid links old → AreFirst valid (links ++ x ∷ []) new
+first_more valid links x old new (inl (v, same)) are e = (
+  λ h. elim (Contains-push_cases old x.old e (subst (λ l. Contains l e) same h)) [
+    | inl early ↦ let f = (are e).0 early in (f.0, Contains-append_left links (x ∷ []) f.0 f.1, f.2, f.3)
+    | inr last ↦ (x, Contains-push links x, last, v)
+  ],
+  λ (y, there, is, w). subst (λ l. Contains l e) (sym same) (elim (Contains-push_cases links x y there) [
+    | inl early ↦ Contains-append_left old (x.old ∷ []) e ((are e).1 (y, early, is, w))
+    | inr last ↦ subst (Contains (old ++ x.old ∷ [])) (ap (λ (z : OlderLink). z.old) last ∙ is) (Contains-push old x.old)
+  ]),
+)
+first_more valid links x old new (inr (never, same)) are e = (
+  λ h. let f = (are e).0 (subst (λ l. Contains l e) same h) in (f.0, Contains-append_left links (x ∷ []) f.0 f.1, f.2, f.3),
+  λ (y, there, is, w). subst (λ l. Contains l e) (sym same) (elim (Contains-push_cases links x y there) [
+    | inl early ↦ (are e).1 (y, early, is, w)
+    | inr last ↦ absurd (never (subst (λ (z : OlderLink). Contains valid z.newer) (sym last) w))
+  ]),
+)
+
 -- ---- filters
 
 in_filter : {X : Type 0} (p : X → Bool) (xs : List X) (x : X) → Contains (filter p xs) x → Contains xs x × (p x ≡ true)
@@ -78,21 +107,21 @@ to_filter p (y ∷ ys) x c e = elim (p y) as (λ b. p y ≡ b → Contains (cond
 abbrev pub Known : List Id → IdSet → Id → Type 0
 Known todo found e = (has_id found e ≡ true) ⊎ Contains todo e
 
--- a chain leads from each known entry to a valid one; valid entries are known, and so is what a found one supersedes
+-- a chain leads from each known entry to a valid one; what valid entries supersede is known, and so is what a found one supersedes
 pub record Searches (rs : List Row) (todo : List Id) (found : IdSet) : Type 0 where
   pub due : (e : Id) → Contains todo e → HasHeir rs e
   pub sound : (e : Id) → has_id found e ≡ true → HasHeir rs e
-  pub begun : (e : Id) → IsValid rs e → Known todo found e
+  pub begun : (old newer : Id) → IsSupersededBy rs old newer → IsValid rs newer → Known todo found old
   pub closed : (old newer : Id) → has_id found newer ≡ true → IsSupersededBy rs old newer → Known todo found old
 
 none_found : (found : IdSet) → found.keys ≡ [] → (e : Id) → has_id found e ≡ true → ⊥
 none_found found empty e h = true≢false (sym h ∙ ap (list_any (λ k. is_eq (id_cmp e k))) empty)
 
-pub search_begins : (rs : List Row) (todo : List Id) (found : IdSet) → AreValid rs todo → found.keys ≡ [] → Searches rs todo found
-search_begins rs todo found are empty = record {
-  due = λ e h. ([], (are e).0 h);
+pub search_begins : (rs : List Row) (valid : List Id) (links : List OlderLink) (todo : List Id) (found : IdSet) → AreLinks rs links → AreValid rs valid → AreFirst valid links todo → found.keys ≡ [] → Searches rs todo found
+search_begins rs valid links todo found are is_valid first empty = record {
+  due = λ e h. let f = (first e).0 h in subst (HasHeir rs) f.2 (f.0.newer, [], ((are f.0).0 f.1, (is_valid f.0.newer).0 f.3));
   sound = λ e h. absurd (none_found found empty e h);
-  begun = λ e v. inr ((are e).1 v);
+  begun = λ old newer is v. inr ((first old).1 (link_to old newer, (are (link_to old newer)).1 is, refl, (is_valid newer).1 v));
   closed = λ old newer h _. absurd (none_found found empty newer h);
 }
 
@@ -113,7 +142,7 @@ module _ (rs : List Row) (links : List OlderLink) (are : AreLinks rs links) (tod
   visited later next (inl (was, same, keeps)) = record {
     due = λ e h. s.due e (in_todo e (subst (λ l. Contains l e) same h));
     sound = λ e h. s.sound e (sym (keeps e) ∙ h);
-    begun = λ e v. known e (s.begun e v);
+    begun = λ old newer is v. known old (s.begun old newer is v);
     closed = λ old newer h is. known old (s.closed old newer (sym (keeps newer) ∙ h) is);
   }
     where
@@ -129,7 +158,7 @@ module _ (rs : List Row) (links : List OlderLink) (are : AreLinks rs links) (tod
       | inl same ↦ subst (HasHeir rs) (is_same_exact id e same) heir
       | inr before ↦ s.sound e before
     ];
-    begun = λ e v. known e (s.begun e v);
+    begun = λ old newer is v. known old (s.begun old newer is v);
     closed = λ old newer h is. elim (or_cases (is_same id newer) (has_id found newer) (sym (marks newer) ∙ h)) [
       | inl same ↦ inr (subst (λ l. Contains l old) (sym adds) (Contains-append_right rest (olds_of links id) old (superseded old newer same is)))
       | inr before ↦ known old (s.closed old newer before is)
@@ -143,7 +172,7 @@ module _ (rs : List Row) (links : List OlderLink) (are : AreLinks rs links) (tod
             let f = from_map (λ (x : OlderLink). x.old) (filter (is_of id) links) e new in
             let m = in_filter (is_of id) links f.0 f.1 in
             let step : IsSupersededBy rs f.0.old f.0.newer = (are f.0).0 m.0 in
-            subst (HasHeir rs) (sym f.2) (f.0.newer ∷ heir.0, (step, subst (λ i. LeadsToValid rs i heir.0) (is_same_exact id f.0.newer m.1) heir.1))
+            subst (HasHeir rs) (sym f.2) (f.0.newer, heir.0 ∷ heir.1, (step, subst (λ i. LeadsToValid rs i (heir.0 ∷ heir.1)) (is_same_exact id f.0.newer m.1) heir.2))
       ]
 
       known : (e : Id) → Known todo found e → Known later next e
@@ -156,16 +185,16 @@ module _ (rs : List Row) (links : List OlderLink) (are : AreLinks rs links) (tod
       superseded : (old newer : Id) → is_same id newer ≡ true → IsSupersededBy rs old newer → Contains (olds_of links id) old
       superseded old newer same is = in_map (λ (x : OlderLink). x.old) (filter (is_of id) links) (link_to old newer) (to_filter (is_of id) links (link_to old newer) ((are (link_to old newer)).1 is) same)
 
-pub search_ends : (rs : List Row) (todo : List Id) (found : IdSet) → todo ≡ [] → Searches rs todo found → HasHeirs rs found
-search_ends rs todo found none s e = (s.sound e, λ h. reaches h.0 e h.1)
+pub search_ends : (rs : List Row) (todo : List Id) (found : IdSet) → todo ≡ [] → Searches rs todo found → HaveHeirs rs found
+search_ends rs todo found none s e = (s.sound e, λ h. reaches h.1 h.0 e h.2)
   where
     done : (i : Id) → Known todo found i → has_id found i ≡ true
     done i (inl h) = h
     done i (inr h) = absurd (none_in i (subst (λ l. Contains l i) none h))
 
-    reaches : (chain : List Id) (i : Id) → LeadsToValid rs i chain → has_id found i ≡ true
-    reaches [] i v = done i (s.begun i v)
-    reaches (n ∷ chain) i (is, leads) = done i (s.closed i n (reaches chain n leads) is)
+    reaches : (chain : List Id) (n i : Id) → LeadsToValid rs i (n ∷ chain) → has_id found i ≡ true
+    reaches [] n i (is, v) = done i (s.begun i n is v)
+    reaches (m ∷ chain) n i (is, leads) = done i (s.closed i n (reaches chain m n leads) is)
 
 -- ---- that it ends
 
@@ -209,8 +238,16 @@ less_left links todo rest id popped found next later (inr (fresh, adds, marks)) 
 
 -- ---- a superseded entry that was not found
 
-pub dangling_is : (rs : List Row) (found : IdSet) (r : Row) (b : Bool) → HasHeirs rs found → r.status ≡ Some Superseded → b ≡ not (has_id found r.entry) → IsTrue b ↔ IsDangling rs r
-dangling_is rs found r b has superseded e = (
-  λ h. record { superseded = superseded; lost = λ chain leads. true≢false (sym h ∙ e ∙ ap not ((has r.entry).1 (chain, leads))) },
-  λ d. e ∙ ap not (false_from_ne_true (has_id found r.entry) (λ h. let heir = (has r.entry).0 h in d.lost heir.0 heir.1)),
+pub heir_is_not : (rs : List Row) (found : IdSet) (r : Row) (b : Bool) → HaveHeirs rs found → has_id found r.entry ≡ true → b ≡ false → IsTrue b ↔ IsDangling rs r
+heir_is_not rs found r b has there fails = (λ h. absurd (true≢false (sym h ∙ fails)), λ d. let heir = (has r.entry).0 there in absurd (d.lost (heir.0 ∷ heir.1) heir.2))
+
+pub dangling_is : (rs : List Row) (valid : List Id) (found : IdSet) (r : Row) (among b : Bool) → AreValid rs valid → HaveHeirs rs found → IsTrue among ↔ Contains valid r.entry → r.status ≡ Some Superseded
+    → has_id found r.entry ≡ false → b ≡ not among → IsTrue b ↔ IsDangling rs r
+dangling_is rs valid found r among b are has told superseded none e = (
+  λ h. record { superseded = superseded; lost = lost (sym e ∙ h) },
+  λ d. e ∙ ap not (false_from_ne_true among (λ h. d.lost [] ((are r.entry).0 (told.0 h)))),
 )
+  where
+    lost : not among ≡ true → (chain : List Id) → ¬ (LeadsToValid rs r.entry chain)
+    lost h [] v = true≢false (sym h ∙ ap not (told.1 ((are r.entry).1 v)))
+    lost h (n ∷ chain) leads = true≢false (sym ((has r.entry).1 (n, chain, leads)) ∙ none)

@@ -56,3 +56,7 @@ withdrawn_is rs s r key b has keyed e = (
       true_from_ne_false (is_retired other.status) (λ stands. true≢false (sym h ∙ e ∙ ap not ((has key).1 (record { row = other; there = there; stands = stands; key = subst (HasKey other.definition) same other_key })))),
   λ all. e ∙ ap not (false_from_ne_true (has_key s key) (λ h. let live = (has key).0 h in true≢false (sym (all key keyed live.row live.there live.key) ∙ live.stands))),
 )
+
+-- an entry that is not retired is not withdrawn
+pub live_is_not : (rs : List Row) (r : Row) (key : KeyBytes) (b : Bool) → b ≡ false → is_retired r.status ≡ false → HasKey r.definition key → Contains rs r → IsTrue b ↔ IsWithdrawn rs r
+live_is_not rs r key b fails stands keyed there = (λ h. absurd (true≢false (sym h ∙ fails)), λ all. absurd (true≢false (sym (all key keyed r there keyed) ∙ stands)))

@@ -45,8 +45,17 @@ Visits links id todo found later next =
     ((has_id found id ≡ true) × (later ≡ todo) × ((e : Id) → has_id next e ≡ has_id found e))
     ⊎ ((has_id found id ≡ false) × (later ≡ todo ++ map (λ (x : OlderLink). x.old) (filter (is_of id) links)) × ((e : Id) → has_id next e ≡ (is_same id e || has_id found e)))
 
-abbrev pub HasHeir : List Row → Id → Type 0
-HasHeir rs e = (chain : List Id) × LeadsToValid rs e chain
+-- the entry that a link supersedes is added at the end if the other one is among these
+abbrev pub AddsFirst : List Id → OlderLink → List Id → List Id → Type 0
+AddsFirst valid x old new = (Contains valid x.newer × (new ≡ old ++ x.old ∷ [])) ⊎ ((¬ (Contains valid x.newer)) × (new ≡ old))
 
-abbrev pub HasHeirs : List Row → IdSet → Type 0
-HasHeirs rs found = (e : Id) → (has_id found e ≡ true) ↔ HasHeir rs e
+-- these are what links supersede by one of the valid entries
+abbrev pub AreFirst : List Id → List OlderLink → List Id → Type 0
+AreFirst valid links ids = (e : Id) → Contains ids e ↔ ((x : OlderLink) × Contains links x × (x.old ≡ e) × Contains valid x.newer)
+
+-- a chain of at least one supersession leads from e to a valid entry
+abbrev pub HasHeir : List Row → Id → Type 0
+HasHeir rs e = (n : Id) × (chain : List Id) × LeadsToValid rs e (n ∷ chain)
+
+abbrev pub HaveHeirs : List Row → IdSet → Type 0
+HaveHeirs rs found = (e : Id) → (has_id found e ≡ true) ↔ HasHeir rs e

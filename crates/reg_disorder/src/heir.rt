@@ -1,13 +1,15 @@
-//! The entries from which a chain of supersessions leads to a valid one.
+//! The superseded entries from which a chain of supersessions leads to a valid one. The search begins at the entries that valid ones
+//! supersede, so that it costs what there are supersessions, and not what there are entries.
 
 ghost use Rattle.std.specs.Prelude.{◌≡◌, ◌++◌, map, IfOk, OnOk};
 ghost use Rattle.std.specs.List.Sorted.{IsSorted};
 ghost use Rattle.reg_report.specs.Seen.{row_seen};
-ghost use Rattle.reg_disorder.specs.Heirs.{link_cmp, AddsValid, AreValid, HasHeirs, Visits};
+ghost use Rattle.reg_op.specs.Ids.{id_cmp};
+ghost use Rattle.reg_disorder.specs.Heirs.{link_cmp, AddsValid, AreValid, AddsFirst, AreFirst, HaveHeirs, Visits};
 
 use crate::link::{OlderLink, links_by, links_of};
 use reg_op::{OpId, Status};
-use reg_report::Row;
+use reg_report::{Row, is_among};
 use std::alloc::{AllocError, Global};
 use std::collections::BTreeSet;
 
@@ -22,13 +24,39 @@ fn push_valid(ids: &mut Vec<OpId>, row: &Row) -> Result<(), AllocError>
     Ok(())
 }
 
-// The valid entries.
-fn valid_of(alloc: Global, rows: &[Row]) -> Result<Vec<OpId>, AllocError>
-    ensures { IfOk result (λ made. AreValid (map row_seen rows.now) made.items) }
+/// The valid entries, sorted.
+pub fn valid_of(alloc: Global, rows: &[Row]) -> Result<Vec<OpId>, AllocError>
+    ensures sorted { IfOk result (λ made. IsSorted id_cmp made.items) }
+    ensures valid { IfOk result (λ made. AreValid (map row_seen rows.now) made.items) }
 {
     let mut made = Vec::new(alloc);
     for row in rows {
         push_valid(&mut made, row)?;
+    }
+    made.sort_unstable();
+    Ok(made)
+}
+
+// Appends the entry that a link supersedes, if the other one is among the valid.
+fn push_first(ids: &mut Vec<OpId>, valid: &[OpId], link: &OlderLink) -> Result<(), AllocError>
+    requires { IsSorted id_cmp valid.now }
+    ensures { OnOk result (AddsFirst valid.now link.now ids.old.items ids.new.items) }
+{
+    if !is_among(valid, link.newer) {
+        return Ok(());
+    }
+    ids.push(link.old)?;
+    Ok(())
+}
+
+// The entries that valid ones supersede.
+fn first_of(alloc: Global, links: &[OlderLink], valid: &[OpId]) -> Result<Vec<OpId>, AllocError>
+    requires { IsSorted id_cmp valid.now }
+    ensures { IfOk result (λ made. AreFirst valid.now links.now made.items) }
+{
+    let mut made = Vec::new(alloc);
+    for link in links {
+        push_first(&mut made, valid, link)?;
     }
     Ok(made)
 }
@@ -61,12 +89,14 @@ fn visit(
     Ok(())
 }
 
-/// The entries from which a chain of supersessions leads to a valid one, the valid ones among them.
-pub fn with_heirs(alloc: Global, rows: &[Row]) -> Result<BTreeSet<OpId>, AllocError>
-    ensures { IfOk result (λ found. HasHeirs (map row_seen rows.now) found) }
+/// The entries from which a chain of at least one supersession leads to a valid one.
+pub fn with_heirs(alloc: Global, rows: &[Row], valid: &[OpId]) -> Result<BTreeSet<OpId>, AllocError>
+    requires sorted { IsSorted id_cmp valid.now }
+    requires valid { AreValid (map row_seen rows.now) valid.now }
+    ensures { IfOk result (λ found. HaveHeirs (map row_seen rows.now) found) }
 {
     let links = links_of(alloc, rows)?;
-    let mut todo = valid_of(alloc, rows)?;
+    let mut todo = first_of(alloc, &links, valid)?;
     let mut found = BTreeSet::new(alloc);
     while let Some(id) = todo.pop() {
         visit(&mut todo, &mut found, &links, id)?;

@@ -1,6 +1,6 @@
 //! Entries of keys whose entries are all retired.
 
-ghost use Rattle.std.specs.Prelude.{◌↔◌, List, IsTrue, map, IfOk, OnOk};
+ghost use Rattle.std.specs.Prelude.{◌↔◌, List, Contains, IsTrue, map, IfOk, OnOk};
 ghost use Rattle.reg_op.specs.Rows.{Row as OneRow};
 ghost use Rattle.reg_report.specs.Keys.{key_bytes};
 ghost use Rattle.reg_report.specs.Seen.{row_seen};
@@ -43,11 +43,14 @@ fn live_keys<'a>(alloc: Global, rows: &'a [Row]) -> Result<BTreeSet<KeyText<'a>>
     Ok(live)
 }
 
-// Whether the key of a row is none of these.
+// Whether the entry of a row is retired, and its key is none of these. Only a retired entry is looked up.
 fn is_withdrawn<'a>(live: &BTreeSet<KeyText<'a>>, row: &'a Row) -> bool
-    ensures { (rs : List OneRow) → HasLiveKeys rs live.now → IsTrue result ↔ IsWithdrawn rs (row_seen row.now) }
+    ensures { (rs : List OneRow) → HasLiveKeys rs live.now → Contains rs (row_seen row.now) → IsTrue result ↔ IsWithdrawn rs (row_seen row.now) }
 {
     let key = key_of(row);
+    if !is_retired(row) {
+        return false;
+    }
     !live.contains(&key)
 }
 

@@ -1,6 +1,7 @@
 use Rattle.std.proofs.Common.{List, [], map, take, sym, subst}
 use Rattle.reg_op.specs.Rows.{Row}
 use Rattle.reg_report.specs.Seen.{row_seen}
+use Rattle.reg_report.proofs.ConflictLemmas.{in_map}
 use Rattle.reg_disorder.specs.declared.listed.ListedEntry.{ListedEntry}
 use Rattle.reg_disorder.specs.Disorders.{IsWithdrawn}
 use Rattle.reg_disorder.specs.Lists.{listed_seen, AreOf}
@@ -18,7 +19,7 @@ loop-row-preserved c =
     let old = map listed_seen c.loop-row.made.items in
     let new = map listed_seen c.push_where.new.made.items in
     rows_more (λ (rs : List Row). AreOf (IsWithdrawn all) rs new) c.args.rows.now c.loop-row.row-index c.row-item.result c.loop-row-test.true c.row-item.is
-    (of_more (IsWithdrawn all) (map row_seen (take c.loop-row.row-index c.args.rows.now)) r c.is_withdrawn-wanted.result old new (c.is_withdrawn-wanted.ensures all c.in_ok-live.ensures) c.in_ok-push_where.ensures c.loop-row.invariant)
+    (of_more (IsWithdrawn all) (map row_seen (take c.loop-row.row-index c.args.rows.now)) r c.is_withdrawn-wanted.result old new (c.is_withdrawn-wanted.ensures all c.in_ok-live.ensures (in_map row_seen c.args.rows.now c.row-item.result (c.loop-row.row-index, c.loop-row-test.true, sym c.row-item.is))) c.in_ok-push_where.ensures c.loop-row.invariant)
 
 pub returns : goal.returns
 returns c = rows_all (λ (rs : List Row). AreOf (IsWithdrawn (map row_seen c.args.rows.now)) rs (map listed_seen c.loop-row.made.items)) c.args.rows.now c.loop-row.row-index c.loop-row-test.false c.loop-row.invariant
