@@ -18,3 +18,6 @@ pub mod Settled
 mod Candidates
 mod Kept
 mod Repeated
+mod MarkLemmas
+pub mod MarkOrder
+pub mod StandingLemmas

@@ -1,5 +1,5 @@
 -- Entries of rows: one row after another, and in order.
-use Rattle.std.proofs.Common.{◌≡◌, ◌↔◌, ℕ, ◌+◌, ◌<◌, Bool, true, false, cond, IsTrue, List, [], ◌∷◌, ◌++◌, map, length, get_or, refl, sym, ap, ◌∙◌, subst, inl, inr, arith}
+use Rattle.std.proofs.Common.{◌≡◌, ◌↔◌, ◌+◌, ◌<◌, Bool, true, false, cond, IsTrue, List, [], ◌∷◌, ◌++◌, map, length, get_or, refl, sym, ap, subst, inl, inr, arith}
 use Rattle.std.proofs.lemmas.Bool.{true≢false}
 use Rattle.std.proofs.lemmas.List.{get_or-map, length-map}
 use Rattle.std.proofs.lemmas.List.Elements.{Contains-append_left, Contains-push, Contains-push_cases}
@@ -7,16 +7,14 @@ use Rattle.std.proofs.lemmas.List.Sorted.{ranks_by}
 use Rattle.std.specs.List.{Contains, dedup_from, dedup}
 use Rattle.std.specs.List.Sorted.{IsSortedBy}
 use Rattle.std.specs.Cmp.{IsTotalOrder, IsStrictWeakOrder, Equal-is, then_total, on_total, tied_itself}
-use Rattle.std.specs.Ordering.{is_lt, is_eq, ordering_then}
+use Rattle.std.specs.Ordering.{is_lt, is_eq}
 use Rattle.std.specs.declared.cmp.Ordering.{Ordering}
-use Rattle.std.specs.declared.cmp.Ordering.TheVariants.{Equal}
 use Rattle.reg_op.specs.Set.{IsAntisymmetric}
 use Rattle.reg_op.specs.Ids.{id_cmp}
 use Rattle.reg_op.specs.Rows.{Row}
 use Rattle.reg_op.proofs.OpLemmas.{id_total, id_exact, both_equal}
-use Rattle.reg_report.specs.Conflicts.{KeyBytes, key_cmp}
+use Rattle.reg_report.specs.Conflicts.{key_cmp}
 use Rattle.reg_report.proofs.ConflictLemmas.{none_in, key_total, key_exact}
-use Rattle.reg_disorder.specs.declared.listed.ListedEntry.{ListedEntry}
 use Rattle.reg_disorder.specs.Disorders.{Keyed, keyed_cmp}
 use Rattle.reg_disorder.specs.Lists.{listed_seen, IsLineOf, Adds, AreOf}
 

@@ -3,6 +3,8 @@ pub mod Lists
 pub mod Texts
 pub mod Keys
 pub mod Heirs
+pub mod Marks
+pub mod Standings
 pub mod Reports
 pub mod Links
 pub mod LinkHeirs

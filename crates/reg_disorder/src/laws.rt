@@ -7,6 +7,9 @@ ghost use Rattle.reg_op.specs.Contents.{Content};
 ghost use Rattle.reg_disorder.specs.declared.disorder.Disorder.{Disorder};
 ghost use Rattle.reg_disorder.specs.Disorders.{Keyed, AreAmiss, CountsAmiss};
 ghost use Rattle.reg_disorder.specs.Reports.{IsAmissText};
+ghost use Rattle.reg_report.specs.Conflicts.{KeyBytes};
+ghost use Rattle.reg_disorder.specs.declared.code.Standing.{Standing};
+ghost use Rattle.reg_disorder.specs.Standings.{IsStanding};
 
 /// Rows have one list, one count and one report of what is not in order in each way. So registers with the same operations
 /// report the same.
@@ -19,4 +22,10 @@ pub fn one_report()
 /// Pruning does not change what is not in order.
 pub fn pruning_keeps_disorder()
     ensures { (way : Disorder) (s : Ops) (ls : List Keyed) → AreAmiss way (rows (kept s)) ls ↔ AreAmiss way (rows s) ls }
+{}
+
+/// A key has at most one standing, and pruning does not change it.
+pub fn one_standing()
+    ensures one { (rs : List Row) (k : KeyBytes) (s t : Standing) → IsStanding s rs k → IsStanding t rs k → s ≡ t }
+    ensures pruned { (x : Ops) (k : KeyBytes) (s : Standing) → IsStanding s (rows (kept x)) k ↔ IsStanding s (rows x) k }
 {}

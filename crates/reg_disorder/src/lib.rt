@@ -2,6 +2,7 @@
 //! entries are all retired.
 #![tactic(auto)]
 
+mod code;
 mod dangling;
 mod disorder;
 mod double;
@@ -12,11 +13,14 @@ mod link;
 pub mod linking;
 mod listed;
 mod listing;
+mod mark;
 pub mod settling;
 mod standing;
 mod withdrawn;
 
+pub use code::{Standing, has_mark, standing_of};
 pub use disorder::Disorder;
 pub use lines::amiss_text;
 pub use listed::ListedEntry;
 pub use listing::{amiss, count_amiss};
+pub use mark::{Mark, marks};
