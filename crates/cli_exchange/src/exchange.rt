@@ -1,5 +1,6 @@
 //! Commands that make and exchange registers.
 use crate::brought::say_merged;
+use crate::replacing::Replacing;
 use byte_disk::NewFile;
 use byte_place::OutPlace;
 use clap::ArgMatches;
@@ -21,10 +22,13 @@ use std::rt::Files;
 
 /// `new`.
 pub fn new(rt: &HostRuntime, matches: &ArgMatches<'_>) -> Result<(), CliFault> {
+    let replacing = Replacing::begin(rt, matches, "OUT", &[]);
     let mut place = place(rt, rt.alloc(), word(matches, "OUT"))?;
     let answer = run_new(rt.alloc(), &mut place);
     drop(place);
-    answer
+    answer?;
+    replacing.say(rt);
+    Ok(())
 }
 
 /// `merge`. Where sentences are on, the last one says what it brought.
@@ -48,7 +52,10 @@ pub fn merge(rt: &HostRuntime, matches: &ArgMatches<'_>) -> Result<(), CliFault>
 
 // The memory of the registers is not freed, as in `run_merge`.
 fn merge_and_tell(rt: &HostRuntime, matches: &ArgMatches<'_>) -> Result<(), CliFault> {
+    let paths = matches.get_strs("FILE").unwrap_or(&[]);
+    let replacing = Replacing::begin(rt, matches, "OUT", paths);
     let merged = merge_registers(rt, matches)?;
+    replacing.say(rt);
     if let Ok(named) = CommandFiles::of(rt, CommandName::Merge, matches) {
         say_merged(rt, &merged, &named);
     }
@@ -93,28 +100,39 @@ fn open_to_give(
 
 /// `seen`.
 pub fn seen(rt: &HostRuntime, matches: &ArgMatches<'_>) -> Result<(), CliFault> {
-    let place = place_over(rt, word(matches, "OUT"), &[word(matches, "REG")])?;
+    let inputs = [word(matches, "REG")];
+    let replacing = Replacing::begin(rt, matches, "OUT", &inputs);
+    let place = place_over(rt, word(matches, "OUT"), &inputs)?;
     let register = open_to_give(rt, matches)?;
-    give_of(rt, register, &mut SeenFile, place)
+    give_of(rt, register, &mut SeenFile, place)?;
+    replacing.say(rt);
+    Ok(())
 }
 
 /// `piece`.
 pub fn piece(rt: &HostRuntime, matches: &ArgMatches<'_>) -> Result<(), CliFault> {
     let inputs = [word(matches, "REG"), word(matches, "SEEN")];
+    let replacing = Replacing::begin(rt, matches, "OUT", &inputs);
     let place = place_over(rt, word(matches, "OUT"), &inputs)?;
     let register = open_to_give(rt, matches)?;
     let mut summary = open(rt, next_file(&register), word(matches, "SEEN"))?;
     let mut command = PieceFor {
         summary: &mut summary,
     };
-    give_of(rt, register, &mut command, place)
+    give_of(rt, register, &mut command, place)?;
+    replacing.say(rt);
+    Ok(())
 }
 
 /// `downgrade`.
 pub fn downgrade(rt: &HostRuntime, matches: &ArgMatches<'_>) -> Result<(), CliFault> {
-    let place = place_over(rt, word(matches, "OUT"), &[word(matches, "REG")])?;
+    let inputs = [word(matches, "REG")];
+    let replacing = Replacing::begin(rt, matches, "OUT", &inputs);
+    let place = place_over(rt, word(matches, "OUT"), &inputs)?;
     let register = open_to_give(rt, matches)?;
-    give_of(rt, register, &mut FirstVersion, place)
+    give_of(rt, register, &mut FirstVersion, place)?;
+    replacing.say(rt);
+    Ok(())
 }
 
 /// The size of the new shelf, if a shelf may have it.
@@ -129,10 +147,13 @@ pub fn shelf(rt: &HostRuntime, matches: &ArgMatches<'_>) -> Result<(), CliFault>
         return Err(CliFault::Refused(Refusal::BadSize));
     };
     let path = word(matches, "NEW");
+    let replacing = Replacing::begin(rt, matches, "NEW", &[]);
     // The lock ends with the file, when the shelf is whole.
     let _lock = lock_new_shelf(rt, path)?;
     run_shelf(rt.alloc(), &mut NewFile::new(rt, path), size)?;
-    sync_folder(rt, path)
+    sync_folder(rt, path)?;
+    replacing.say(rt);
+    Ok(())
 }
 
 // Syncs the folder of a new shelf: otherwise a power cut could leave no shelf there. A folder that cannot be opened cannot be
@@ -149,7 +170,10 @@ fn sync_folder<R: Files>(rt: &R, path: &str) -> Result<(), CliFault> {
 
 /// `unshelf`.
 pub fn unshelf(rt: &HostRuntime, matches: &ArgMatches<'_>) -> Result<(), CliFault> {
+    let replacing = Replacing::begin(rt, matches, "OUT", &[word(matches, "SHELF")]);
     let disk = open_to_read(rt, word(matches, "SHELF"))?;
     let place = place(rt, rt.alloc(), word(matches, "OUT"))?;
-    give_of(rt, OpenedRegister::Shelf(disk), &mut Whole, place)
+    give_of(rt, OpenedRegister::Shelf(disk), &mut Whole, place)?;
+    replacing.say(rt);
+    Ok(())
 }

@@ -6,6 +6,7 @@ mod asked;
 mod brought;
 mod catching;
 mod exchange;
+mod replacing;
 mod taking;
 mod undone;
 

@@ -4,12 +4,15 @@ use crate::look::tells;
 use byte_io::{Reading, Source, Writing};
 use clap::ArgMatches;
 use cli_open::ending::{NotDone, Outcome, compared};
-use cli_open::{Rows, answered, explains, is_twice, next_file, open, open_register, open_text};
+use cli_open::{
+    Rows, answered, explains, is_twice, next_file, open, open_register, open_text, word,
+};
 use reg_desk::{ImportFault, Unimported};
 use reg_engine::CliFault;
 use reg_import::Problem;
 use reg_lint::engine::{TextsFault, read_texts, run_lint, run_lint_kept, usual_of};
 use reg_lint::{ANY_RULES, AnyRule, KeptSubject};
+use reg_op::Status;
 use std::alloc::{AllocError, Global};
 use std::io::{self, Write};
 use wkt_explain::{Recorded, explain_within};
@@ -98,12 +101,36 @@ fn lint_register_to<W: Write>(
     sink: &mut Writing<W>,
 ) -> Result<bool, CliFault> {
     let register = open_register(rt, rt.alloc(), matches, "REG", &None)?;
+    let status = status_of(word(matches, "status"));
     let Some(path) = matches.get_str("known") else {
         let mut none = Reading::new(b"".as_slice());
-        return run_lint(rt.alloc(), &mut register.reading(), rules, &mut none, sink);
+        return run_lint(
+            rt.alloc(),
+            &mut register.reading(),
+            rules,
+            status,
+            &mut none,
+            sink,
+        );
     };
     let mut known = open(rt, next_file(&register), path)?;
-    run_lint(rt.alloc(), &mut register.reading(), rules, &mut known, sink)
+    run_lint(
+        rt.alloc(),
+        &mut register.reading(),
+        rules,
+        status,
+        &mut known,
+        sink,
+    )
+}
+
+// The status of the argument, or none for all that are not retired.
+fn status_of(word: &str) -> Option<Status> {
+    match word {
+        "valid" => Some(Status::Valid),
+        "superseded" => Some(Status::Superseded),
+        _ => None,
+    }
 }
 
 // Prints the rows of the texts of so many files.

@@ -108,6 +108,7 @@ fn query<'a>(matches: &ArgMatches<'a>) -> Option<Query<'a>> {
         area: matches.get_str("area"),
         at,
         kind: kind_of(word(matches, "kind")),
+        text: matches.get_str("text"),
         status: wanted(word(matches, "status")),
     })
 }
@@ -126,7 +127,7 @@ fn kind_of(word: &str) -> Option<Kind> {
 
 // Whether a word to search for is empty.
 fn has_empty(matches: &ArgMatches<'_>) -> bool {
-    for argument in ["WORD", "key", "authority", "code", "name", "area"] {
+    for argument in ["WORD", "key", "authority", "code", "name", "area", "text"] {
         if let Some("") = matches.get_str(argument) {
             return true;
         }

@@ -24,7 +24,7 @@ pub use stores::{OpenedRegister, ReadRegister, give_of, next_file, open_register
 pub use table::{Rows, answered, is_table};
 pub use targets::{RegisterTarget, open_target};
 pub use typed::{entries, entry};
-pub use waiting::{patience, reserve};
+pub use waiting::{is_among, patience, reserve};
 pub use words::{
     STANDARD_INPUT, STANDARD_INPUT_PATH, changed_place, explains, files_before, is_twice, listed,
     office_file, open, open_all, open_text, place, printing_place, push_listed, push_words,

@@ -39,8 +39,8 @@ pub fn reserve(
     }
 }
 
-// Whether one of the paths leads to the file at this path.
-fn is_among(rt: &HostRuntime, path: &str, others: &[&str]) -> bool {
+/// Whether one of the paths leads to the file at this path.
+pub fn is_among(rt: &HostRuntime, path: &str, others: &[&str]) -> bool {
     for other in others {
         if *other == path || is_same_file(rt, path, *other) {
             return true;

@@ -45,6 +45,12 @@ static FIND: CommandRow = CommandRow {
             ..FLAG
         },
         CommandArgument {
+            name: "text",
+            help: "Only with this part in a datum, an ellipsoid, a method or the remark",
+            kind: ArgumentKind::Text("PART"),
+            ..FLAG
+        },
+        CommandArgument {
             name: "at",
             help: "Only entries with a bounding box around this point",
             kind: ArgumentKind::Text("LAT,LON"),
@@ -134,6 +140,11 @@ static LINT: CommandRow = CommandRow {
             help: "Only by these rules, with commas between",
             kind: ArgumentKind::Option("RULES"),
             ..FLAG
+        },
+        CommandArgument {
+            values: &["valid", "superseded", "live"],
+            excludes: &["texts"],
+            ..STATUS
         },
         CommandArgument {
             name: "known",

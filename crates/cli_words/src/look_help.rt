@@ -3,11 +3,12 @@
 pub const FIND_HELP: &str = "\
 Prints the lines of the report of entries that match WORD and every option
 given, or all lines without these. WORD is a key if an entry has this key, and
-otherwise a part of the name or the code. In authorities, names and areas, the
-letters A to Z match in either case; codes match byte for byte. An empty WORD,
-PART, A, C or AUTH:CODE is an error, since it would match every entry or none. A
-point on the border of a bounding box is in it. If west is greater than east,
-the box crosses the meridian of 180 degrees.
+otherwise a part of the name or the code. The letters A to Z match in either
+case, but in codes, which match byte for byte. With --text a datum, an ensemble,
+an ellipsoid or a method has PART in its name, or the remark has it. An empty
+WORD, PART, A, C or AUTH:CODE is an error, since it would match every entry or
+none. A point on the border of a bounding box is in it. If west is greater than
+east, the box crosses the meridian of 180 degrees.
 
 With --ids it prints only the ids. If no entry matches, it is refused as
 NoEntry, so $(crsreg find .. --ids) is safe in scripts.
@@ -46,7 +47,8 @@ With --known it leaves out the rows of a file that earlier calls printed and
 somebody looked at. A row is known again by its rule, authority, code, name and
 detail; further columns are passed over.
 
-With --exit-code the status is 1 if there are rows.
+With --status it looks only at entries with this status, and compares only these
+with each other. With --exit-code the status is 1 if there are rows.
 
 The rules are accuracy, angle, away, axes, axisname, box, case, datum, dms,
 ellipsoid, falseunit, figure, height, key, meridian, name, operation, parallels,

@@ -69,15 +69,22 @@ static SETTLE: CommandRow = CommandRow {
         REGISTER,
         CommandArgument {
             name: "KEEP",
-            help: "The ids of the entries to keep, as UUID:NUMBER; - reads ids",
+            help: "The ids of the entries to keep, as UUID:NUMBER, or with --of keys; - reads them",
             role: Role::Entries,
-            need: Need::Unless(&["equal"]),
+            need: Need::Unless(&["equal", "of"]),
             excludes: &["equal"],
             ..WORDS
         },
         CommandArgument {
             name: "equal",
             help: "Of entries with one key and text, keeps the least",
+            ..FLAG
+        },
+        CommandArgument {
+            name: "of",
+            help: "Of each key in conflict, or of these keys, keeps the entry of this office",
+            kind: ArgumentKind::Option("UUID"),
+            excludes: &["equal"],
             ..FLAG
         },
         CommandArgument {

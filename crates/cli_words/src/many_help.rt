@@ -46,6 +46,10 @@ keeps the one with the least id and retires the others. Several offices can do
 this at once, since all keep the same one. Only one office should settle with
 KEEP: if two settle in opposite ways, both entries are retired.
 
+With --of: of each key in conflict, or of each KEEP, which is a key then, keeps
+the entry of this office that is not retired, if it has exactly one. Other keys
+are passed over.
+
 A supersession of or by an entry that is retired is made for the entry that
 stays, so no superseded text becomes valid. These ids are printed too.
 

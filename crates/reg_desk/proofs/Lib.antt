@@ -3,6 +3,7 @@ pub mod PartLemmas
 pub mod LookLemmas
 mod OldRows
 pub mod StatusLemmas
+mod OfficeKeepsLemmas
 mod SettleLemmas
 pub mod ImportFileLemmas
 mod ProgressLemmas

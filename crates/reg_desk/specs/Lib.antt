@@ -4,6 +4,7 @@ pub mod Look
 pub mod Words
 pub mod Status
 pub mod Explained
+pub mod OfficeKeeps
 pub mod Settle
 pub mod ImportFiles
 pub mod ImportTexts

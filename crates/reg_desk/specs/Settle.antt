@@ -16,6 +16,9 @@ use Rattle.reg_engine.specs.declared.fault.CliFault.TheVariants as cli
 use Rattle.reg_engine.specs.Fault.{office_fault}
 use Rattle.reg_engine.specs.Outputs.{id_lines}
 use Rattle.reg_disorder.specs.Retiring.{RetiresFor, CannotRetireFor}
+use Rattle.reg_desk.specs.OfficeKeeps.{AreOfficeKeeps}
+use Rattle.reg_desk.specs.declared.settle.Keeps.{Keeps}
+use Rattle.reg_desk.specs.declared.settle.Keeps.TheVariants.{Entries, OfOffice, Equal}
 
 -- the fault of an entry that cannot be kept
 abbrev pub settle_fault : SettleFault → CliFault
@@ -26,20 +29,20 @@ settle_fault settle.Memory = cli.Memory
 
 -- ---- the entries of a content that are retired
 
--- so that these are kept
-abbrev pub SettlesFor : List Id → Content → List Id → Type 0
-SettlesFor keeps x list = IsSettled (rows x.ops) keeps list
+-- so that these stay; or those of an office, where it has one of a key in conflict; or so that each text is entered once
+abbrev pub ListsFor : Keeps → Content → List Id → Type 0
+ListsFor (Entries keeps) x list = IsSettled (rows x.ops) keeps.now list
+ListsFor (OfOffice office words) x list = (keeps : List Id) × AreOfficeKeeps office words.now (rows x.ops) keeps × IsSettled (rows x.ops) keeps list
+ListsFor Equal x list = AreDoubles (rows x.ops) list
 
--- why these cannot be kept
-abbrev pub CannotKeep : List Id → Content → Refusal → Type 0
-CannotKeep keeps x r = (f : SettleFault) × IsUnsettled (rows x.ops) keeps f × (settle_fault f ≡ cli.Refused r)
+-- why these cannot stay; the last is never refused
+abbrev pub IsUnlisted : Keeps → Content → SettleFault → Type 0
+IsUnlisted (Entries keeps) x f = IsUnsettled (rows x.ops) keeps.now f
+IsUnlisted (OfOffice office words) x f = (keeps : List Id) × AreOfficeKeeps office words.now (rows x.ops) keeps × IsUnsettled (rows x.ops) keeps f
+IsUnlisted Equal x f = ⊥
 
--- so that each text is entered once; which is never refused
-abbrev pub SettlesEqual : Content → List Id → Type 0
-SettlesEqual x list = AreDoubles (rows x.ops) list
-
-abbrev pub NeverRefuses : Content → Refusal → Type 0
-NeverRefuses x r = ⊥
+abbrev pub RefusesFor : Keeps → Content → Refusal → Type 0
+RefusesFor keeps x r = (f : SettleFault) × IsUnlisted keeps x f × (settle_fault f ≡ cli.Refused r)
 
 -- ---- the effect of retiring them
 

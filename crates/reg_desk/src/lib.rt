@@ -10,6 +10,7 @@ mod import;
 pub mod laws;
 mod logging;
 mod look;
+mod office_keeps;
 mod offices;
 mod settle;
 mod status;
@@ -25,5 +26,5 @@ pub use import::{HasRoom, ImportFault, ImportOptions, Unimported, run_import, tr
 pub use logging::{LogAll, LogByWords, LogOf};
 pub use look::{Inspect, LateAt, Look, OpenedDisk, ShelfAt};
 pub use offices::Offices;
-pub use settle::{Settle, SettleEqual};
+pub use settle::{Keeps, Settle};
 pub use status::run_status;

@@ -1,4 +1,4 @@
-//! The command `settle`: retires entries so that others are kept, or so that each text is in one entry.
+//! The command `settle`: retires entries so that others stay.
 
 ghost use Rattle.std.specs.Prelude.{◌≡◌, ◌⊎◌, List, IfOk, IfErr};
 ghost use Rattle.reg_op.specs.Ids.{Id};
@@ -6,8 +6,10 @@ ghost use Rattle.reg_office.specs.declared.fault.OfficeFault.{OfficeFault as One
 ghost use Rattle.reg_engine.specs.Fault.{office_fault};
 ghost use Rattle.reg_engine.specs.Outputs.{id_lines};
 ghost use Rattle.reg_disorder.specs.Retiring.{RetiresFor, CannotRetireFor};
-ghost use Rattle.reg_desk.specs.Settle.{SettlesFor, CannotKeep, SettlesEqual, NeverRefuses, Retires, IsUnretired, settle_fault};
+ghost use Rattle.reg_disorder.specs.declared.settling.fault.SettleFault.TheVariants as settle;
+ghost use Rattle.reg_desk.specs.Settle.{ListsFor, RefusesFor, IsUnlisted, Retires, IsUnretired, settle_fault};
 
+use crate::office_keeps::office_keeps;
 use reg_disorder::linking::{Retired, retire_for_heirs};
 use reg_disorder::settling::{SettleFault, doubles, to_retire};
 use reg_engine::{Change, CliFault, Made, Refusal, id_lines};
@@ -17,12 +19,25 @@ use reg_state::Register;
 use std::alloc::Global;
 use uuid::Uuid;
 
-/// Retires, as the replica and with the note, the other entries that have the keys of the entries to keep. Their links pass on
-/// to these.
+/// Which entries stay.
+#[derive(Clone, Copy)]
+pub enum Keeps<'a> {
+    /// These: the others with their keys are retired.
+    Entries(&'a [OpId]),
+    /// Of each key in conflict that a word names, or of each without words, the entry of the office, if it has exactly one there.
+    OfOffice {
+        office: Uuid,
+        words: &'a [&'a [u8]],
+    },
+    /// Of entries with one text the least.
+    Equal,
+}
+
+/// Retires, as the replica and with the note, the entries for which others stay. Their links pass on to these.
 #[derive(Drop)]
 pub struct Settle<'a> {
     pub replica: Uuid,
-    pub keeps: &'a [OpId],
+    pub keeps: Keeps<'a>,
     pub note: &'a str,
 }
 
@@ -30,15 +45,15 @@ impl Change for Settle<'_> {
     type Read = ();
 
     ghost use Rattle.std.specs.Prelude.{◌≡◌};
-    ghost use Rattle.reg_desk.specs.Settle.{SettlesFor, CannotKeep, Retires, IsUnretired};
+    ghost use Rattle.reg_desk.specs.Settle.{ListsFor, RefusesFor, Retires, IsUnretired};
 
     ghost reads = { λ old. λ new. λ next. λ x. λ r. new ≡ old };
 
     ghost unmet = { λ old. λ new. λ next. λ x. λ f. ⊥ };
 
-    ghost makes = { λ old. λ new. λ next. λ x. λ z. λ y. λ lines. Retires (SettlesFor old.keeps.now) old.replica old.note.now z y lines };
+    ghost makes = { λ old. λ new. λ next. λ x. λ z. λ y. λ lines. Retires (ListsFor old.keeps) old.replica old.note.now z y lines };
 
-    ghost refuses = { λ old. λ new. λ next. λ x. λ z. λ f. IsUnretired (SettlesFor old.keeps.now) (CannotKeep old.keeps.now) old.replica old.note.now z f };
+    ghost refuses = { λ old. λ new. λ next. λ x. λ z. λ f. IsUnretired (ListsFor old.keeps) (RefusesFor old.keeps) old.replica old.note.now z f };
 
     ghost same = { λ old. λ new. Unit {0} };
 
@@ -70,21 +85,21 @@ impl Change for Settle<'_> {
     }
 }
 
-// Retires the other entries that have the keys of the entries to keep.
+// Retires the entries for which others stay.
 fn settled(
     alloc: Global,
     register: Register,
     replica: Uuid,
-    keeps: &[OpId],
+    keeps: Keeps<'_>,
     note: &str,
 ) -> Result<Made, CliFault>
-    ensures made { IfOk result (λ made. Retires (SettlesFor keeps.now) replica note.now register made.register made.lines.items) }
-    ensures fault { IfErr result (λ f. IsUnretired (SettlesFor keeps.now) (CannotKeep keeps.now) replica note.now register f) }
+    ensures made { IfOk result (λ made. Retires (ListsFor keeps) replica note.now register made.register made.lines.items) }
+    ensures fault { IfErr result (λ f. IsUnretired (ListsFor keeps) (RefusesFor keeps) replica note.now register f) }
 {
     if note.len() > Note::MAX {
         return Err(CliFault::Refused(Refusal::Office(OfficeFault::NoteTooLong)));
     }
-    let entries = match to_retire(alloc, &register, keeps) {
+    let entries = match listed(alloc, &register, keeps) {
         Ok(entries) => entries,
         Err(fault) => return Err(fault_of(fault)),
     };
@@ -94,77 +109,23 @@ fn settled(
     }
 }
 
-/// Retires all doubles, as the replica and with the note. Their links pass on to the entries that stay.
-#[derive(Drop)]
-pub struct SettleEqual<'a> {
-    pub replica: Uuid,
-    pub note: &'a str,
-}
-
-impl Change for SettleEqual<'_> {
-    type Read = ();
-
-    ghost use Rattle.std.specs.Prelude.{◌≡◌};
-    ghost use Rattle.reg_desk.specs.Settle.{SettlesEqual, NeverRefuses, Retires, IsUnretired};
-
-    ghost reads = { λ old. λ new. λ next. λ x. λ r. new ≡ old };
-
-    ghost unmet = { λ old. λ new. λ next. λ x. λ f. ⊥ };
-
-    ghost makes = { λ old. λ new. λ next. λ x. λ z. λ y. λ lines. Retires SettlesEqual old.replica old.note.now z y lines };
-
-    ghost refuses = { λ old. λ new. λ next. λ x. λ z. λ f. IsUnretired SettlesEqual NeverRefuses old.replica old.note.now z f };
-
-    ghost same = { λ old. λ new. Unit {0} };
-
-    ghost itself = { λ a. tt };
-
-    ghost unread = { λ old. λ new. Unit {0} };
-
-    ghost rests = { λ a. tt };
-
-    ghost still = { λ a b c e f. tt };
-
-    ghost stops = { λ a b n x z f h. absurd h };
-
-    fn read(&mut self, _alloc: Global, _next: usize, _register: &Register) -> Result<(), CliFault> {
-        Ok(())
-    }
-
-    fn make(
-        &mut self,
-        alloc: Global,
-        _next: usize,
-        _read: (),
-        register: Register,
-    ) -> Result<Made, CliFault> {
-        match settled_equal(alloc, register, self.replica, self.note) {
-            Ok(made) => Ok(made),
-            Err(fault) => Err(fault),
-        }
-    }
-}
-
-// Retires all doubles.
-fn settled_equal(
-    alloc: Global,
-    register: Register,
-    replica: Uuid,
-    note: &str,
-) -> Result<Made, CliFault>
-    ensures made { IfOk result (λ made. Retires SettlesEqual replica note.now register made.register made.lines.items) }
-    ensures fault { IfErr result (λ f. IsUnretired SettlesEqual NeverRefuses replica note.now register f) }
+// The entries to retire.
+fn listed(alloc: Global, register: &Register, keeps: Keeps<'_>) -> Result<Vec<OpId>, SettleFault>
+    ensures ok { IfOk result (λ ids. ListsFor keeps register.now ids.items) }
+    ensures fault { IfErr result (λ f. IsUnlisted keeps register.now f ⊎ (f ≡ settle.Memory)) }
 {
-    if note.len() > Note::MAX {
-        return Err(CliFault::Refused(Refusal::Office(OfficeFault::NoteTooLong)));
-    }
-    let entries = match doubles(alloc, &register) {
-        Ok(entries) => entries,
-        Err(_) => return Err(CliFault::Memory),
-    };
-    match retire_all(alloc, register, replica, &entries, note) {
-        Ok(made) => Ok(made),
-        Err(fault) => Err(fault),
+    match keeps {
+        Keeps::Entries(keeps) => to_retire(alloc, register, keeps),
+        Keeps::OfOffice { office, words } => {
+            let Ok(keeps) = office_keeps(alloc, register, office, words) else {
+                return Err(SettleFault::Memory);
+            };
+            to_retire(alloc, register, &keeps)
+        }
+        Keeps::Equal => match doubles(alloc, register) {
+            Ok(entries) => Ok(entries),
+            Err(_) => Err(SettleFault::Memory),
+        },
     }
 }
 

@@ -21,5 +21,6 @@ asked c = record {
   area = None;
   at = None;
   kind = None;
+  text = None;
   status = Some (status_of c.status);
 }

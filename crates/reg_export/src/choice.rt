@@ -41,6 +41,7 @@ impl<'a> Choice<'a> {
             area: None,
             at: None,
             kind: None,
+            text: None,
             status: Some(status_of(self.status)),
         }
     }

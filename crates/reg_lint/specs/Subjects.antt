@@ -1,5 +1,5 @@
 -- What is looked at: reference systems, each with what names it in rows.
-use Rattle.std.specs.Prelude.{◌≡◌, Bool, true, false, ℕ, List, [], ◌∷◌, Option, Some, None}
+use Rattle.std.specs.Prelude.{◌≡◌, Bool, true, false, ℕ, List, [], ◌∷◌, filter, Option, Some, None}
 use Rattle.std.specs.List.{cons_option}
 use Rattle.crs_part.specs.declared.identifiers.Ident.{Ident}
 use Rattle.crs_value.specs.declared.crs.Crs.{Crs}
@@ -78,3 +78,23 @@ AreLiveKept rs ks = (ss : List Subject) × AreLive rs ss × AreKept ks ss
 -- the entries of a content that are not retired, by id
 abbrev pub AreLiveIn : Content → List Subject → Type 0
 AreLiveIn x subjects = AreLive (rows x.ops) subjects
+
+-- ---- a status that is asked for
+
+abbrev pub is_status : Status → Option Status → Bool
+is_status Valid (Some Valid) = true
+is_status Superseded (Some Superseded) = true
+is_status Retired (Some Retired) = true
+is_status wanted status = false
+
+abbrev pub has_status : Status → Row → Bool
+has_status wanted r = is_status wanted r.status
+
+-- the rows with the status, if one is asked for
+abbrev pub asked : Option Status → List Row → List Row
+asked None rs = rs
+asked (Some wanted) rs = filter (has_status wanted) rs
+
+-- the entries of a content that are not retired and have the status, if one is asked for, by id
+abbrev pub AreLiveWith : Option Status → Content → List Subject → Type 0
+AreLiveWith status x subjects = AreLive (asked status (rows x.ops)) subjects

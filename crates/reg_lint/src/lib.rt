@@ -26,7 +26,7 @@ pub use entered::entered_subjects;
 pub use kept::{KeptForm, KeptSubject};
 pub use known::{Known, known_rows};
 pub use lines::{has_rows, lint_text};
-pub use live::live_subjects;
+pub use live::subjects_with;
 pub use reg_sense::WideRule;
 pub use rule::{ANY_RULES, AnyRule};
 pub use texts::{Unread, push_texts};

@@ -47,9 +47,10 @@ if_none (Some x) P e = absurd (true≢false e)
 
 pub nothing_asked : (q : Query) (crs : CrsParts) → asks_value q ≡ false → MeetsValue q crs
 nothing_asked q crs e =
-    let one = or_parts (is_some q.area) (is_some q.at || is_some q.kind) e in
-    let two = or_parts (is_some q.at) (is_some q.kind) one.1 in
-    record { area = if_none q.area _ one.0; at = if_none q.at _ two.0; kind = if_none q.kind _ two.1 }
+    let one = or_parts (is_some q.area) (is_some q.at || (is_some q.kind || is_some q.text)) e in
+    let two = or_parts (is_some q.at) (is_some q.kind || is_some q.text) one.1 in
+    let three = or_parts (is_some q.kind) (is_some q.text) two.1 in
+    record { area = if_none q.area _ one.0; at = if_none q.at _ two.0; kind = if_none q.kind _ three.0; text = if_none q.text _ three.1 }
 
 -- rows of the program have the same entries as the rows that contracts see
 pub entries_seen : (rs : List Row) → map (λ (r : Row). r.entry) rs ≡ map (λ (r : RowOf). r.entry) (map row_seen rs)

@@ -1,3 +1,4 @@
+pub mod TextLemmas
 pub mod FoundLemmas
 pub mod PartLemmas
 pub mod SeenLemmas

@@ -22,18 +22,8 @@ is_status Superseded (Some Superseded) = true
 is_status Retired (Some Retired) = true
 is_status wanted status = false
 
-abbrev pub status_in : Row → Option Status
-status_in r = r.status
-
 abbrev pub has_status : Status → Row → Bool
 has_status status r = is_status status r.status
-
--- the number of entries with these statuses, in all and of each
-pub record CountStatuses (statuses : List (Option Status)) (c : EntryCounts) : Type 0 where
-  pub entries : c.entries ≡ length statuses
-  pub valid : c.valid ≡ count_by (is_status Valid) statuses
-  pub superseded : c.superseded ≡ count_by (is_status Superseded) statuses
-  pub retired : c.retired ≡ count_by (is_status Retired) statuses
 
 -- the number of rows, in all and of each status
 pub record AreCounts (rs : List Row) (c : EntryCounts) : Type 0 where

@@ -1,3 +1,4 @@
+pub mod Texts
 pub mod Queries
 pub mod Found
 pub mod Figures

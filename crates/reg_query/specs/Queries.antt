@@ -11,6 +11,7 @@ use Rattle.reg_op.specs.Rows.{Row}
 use Rattle.reg_op.specs.declared.status.Status.{Status}
 use Rattle.reg_op.specs.declared.status.Status.TheVariants as status
 use Rattle.reg_report.specs.Conflicts.{KeyBytes}
+use Rattle.reg_query.specs.Texts.{IsInTexts}
 use Rattle.reg_query.specs.declared.find.query.Query.{Query}
 use Rattle.reg_query.specs.declared.find.query.Wanted.{Wanted}
 use Rattle.reg_query.specs.declared.find.query.Wanted.TheVariants.{Valid, Superseded, Retired, Live}
@@ -60,12 +61,13 @@ pub record MeetsOptions (q : Query) (k : KeyBytes) (name : List ℕ) (s : Option
 abbrev pub MeetsTitle : List Row → Query → KeyBytes → List ℕ → Option Status → Type 0
 MeetsTitle rs q k name s = IfSome q.word (λ word. IsSought rs word.now k name) × MeetsOptions q k name s
 
--- of the areas, the bounding boxes and the kind of its reference system
+-- of the areas, the bounding boxes, the kind and the texts of its reference system
 pub record MeetsValue (q : Query) (crs : CrsParts) : Type 0 where
   pub area : IfSome q.area (λ part. IsInArea part.now crs)
   pub at : IfSome q.at (λ point. HasPoint point crs)
   pub kind : IfSome q.kind (λ kind. kind_of crs ≡ kind)
+  pub text : IfSome q.text (λ part. IsInTexts part.now crs)
 
 -- the query asks for any of these
 abbrev pub asks_value : Query → Bool
-asks_value q = is_some q.area || (is_some q.at || is_some q.kind)
+asks_value q = is_some q.area || (is_some q.at || (is_some q.kind || is_some q.text))

@@ -21,6 +21,7 @@ hint_text hints.Empty = codes "the text is empty"
 hint_text hints.ByteOrderMark = codes "the text begins with a byte order mark: save it without one"
 hint_text hints.Utf16 = codes "this is UTF-16: save the text as UTF-8"
 hint_text hints.OwnFile = codes "this is a file of crsreg, such as a register: crsreg texts prints the texts of one"
+hint_text hints.Packed = codes "this file is packed: unpack it, as with gunzip or unzip"
 hint_text hints.Latin = codes "this may be Latin-1 or Windows-1252: save the text as UTF-8"
 hint_text hints.ProjJson = codes "this is JSON, perhaps PROJJSON: projinfo @FILE -o WKT2:2019 -q prints its WKT"
 hint_text hints.Gml = codes "this is XML, perhaps GML: projinfo CODE -o WKT2:2019 -q prints the WKT of its identifier"
@@ -201,10 +202,14 @@ abbrev pub front_hint : List ℕ → Option Hint
 front_hint text = if begins (239 ∷ 187 ∷ 191 ∷ []) text then Some hints.ByteOrderMark
     else (if is_own_file text then Some hints.OwnFile else start_hint (behind_blanks text))
 
+-- the front of a file of gzip, or of zip
+abbrev pub is_packed : List ℕ → Bool
+is_packed text = begins (31 ∷ 139 ∷ []) text || begins (80 ∷ 75 ∷ 3 ∷ 4 ∷ []) text
+
 -- for bytes that are not UTF-8
 abbrev pub encoding_hint : List ℕ → Hint
 encoding_hint text = if begins (255 ∷ 254 ∷ []) text || begins (254 ∷ 255 ∷ []) text then hints.Utf16
-    else (if is_own_file text then hints.OwnFile else hints.Latin)
+    else (if is_own_file text then hints.OwnFile else (if is_packed text then hints.Packed else hints.Latin))
 
 -- for the word after a complete text
 abbrev pub more_hint : List ℕ → Option Hint

@@ -17,6 +17,7 @@ pub enum Hint {
     ByteOrderMark,
     Utf16,
     OwnFile,
+    Packed,
     Latin,
     ProjJson,
     Gml,
@@ -53,6 +54,7 @@ impl Hint {
             Hint::Utf16 => "this is UTF-16: save the text as UTF-8",
             Hint::OwnFile =>
                 "this is a file of crsreg, such as a register: crsreg texts prints the texts of one",
+            Hint::Packed => "this file is packed: unpack it, as with gunzip or unzip",
             Hint::Latin => "this may be Latin-1 or Windows-1252: save the text as UTF-8",
             Hint::ProjJson =>
                 "this is JSON, perhaps PROJJSON: projinfo @FILE -o WKT2:2019 -q prints its WKT",
@@ -176,6 +178,9 @@ fn encoding_hint(text: &[u8]) -> Hint
     }
     if is_own_file(text) {
         return Hint::OwnFile;
+    }
+    if text.starts_with(b"\x1f\x8b") || text.starts_with(b"PK\x03\x04") {
+        return Hint::Packed;
     }
     Hint::Latin
 }

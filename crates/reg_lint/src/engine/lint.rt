@@ -8,33 +8,35 @@ use crate::engine::looked::read_looked;
 use crate::kept::KeptSubject;
 use crate::known::known_rows;
 use crate::lines::{has_rows, lint_text};
-use crate::live::live_subjects;
+use crate::live::subjects_with;
 use crate::rule::AnyRule;
 use byte_io::{Sink, Source, write_all};
 use reg_engine::{CliFault, OutFault, Store};
+use reg_op::Status;
 use std::alloc::{AllocError, Global};
 use std::mem::forget;
 
 /// Loads the register, reads the rows that were looked at before from the file after it, and writes the other rows of the entries
-/// that are not retired and break one of the rules. Returns whether there are any. The register is freed before the rules are looked
+/// that are not retired, have the status, if one is asked for, and break one of the rules. Returns whether there are any. The register is freed before the rules are looked
 /// at. What is kept of its entries is not freed, since the process ends behind it.
 pub fn run_lint<T: Store, S: Source, K: Sink>(
     alloc: Global,
     store: &mut T,
     rules: &[AnyRule],
+    status: Option<Status>,
     known: &mut S,
     sink: &mut K,
 ) -> Result<bool, CliFault>
     ensures same { T.same store.old store.new }
-    ensures printed { IfOk result (IsLinted rules.now (T.around store.old store.new) (S.state known.old) (S.state known.new) (K.state sink.old) (K.state sink.new)) }
-    ensures fault { IfErr result (IsUnlinted rules.now (T.around store.old store.new) (T.next store.old) (S.state known.old) (S.state known.new) (K.state sink.old) (K.state sink.new)) }
+    ensures printed { IfOk result (IsLinted rules.now status (T.around store.old store.new) (S.state known.old) (S.state known.new) (K.state sink.old) (K.state sink.new)) }
+    ensures fault { IfErr result (IsUnlinted rules.now status (T.around store.old store.new) (T.next store.old) (S.state known.old) (S.state known.new) (K.state sink.old) (K.state sink.new)) }
 {
     let next = store.next();
     let register = match store.load(alloc) {
         Ok(register) => register,
         Err(fault) => return Err(fault),
     };
-    let kept = match live_subjects(alloc, &register) {
+    let kept = match subjects_with(alloc, &register, status) {
         Ok(kept) => kept,
         Err(_) => return Err(CliFault::Memory),
     };

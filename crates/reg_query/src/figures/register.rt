@@ -1,15 +1,15 @@
 //! The figures of a register: the lengths of its reports.
 
-ghost use Rattle.std.specs.Prelude.{◌≡◌, ◌++◌, true, Some, length, map, IfOk, OnOk};
+ghost use Rattle.std.specs.Prelude.{◌≡◌, length, map, IfOk};
 ghost use Rattle.std.specs.List.{count_by};
 ghost use Rattle.reg_op.specs.Set as set;
-ghost use Rattle.reg_op.specs.Status.{enters, status};
-ghost use Rattle.reg_op.specs.Rows.{rows_at, rows, awaited};
-ghost use Rattle.reg_query.specs.Figures.{is_status, status_in, CountStatuses, AreCounts, AreCountsAmiss, AreFigures, CountsConflicts, CountsGaps};
+ghost use Rattle.reg_op.specs.Rows.{awaited};
+ghost use Rattle.reg_report.specs.Seen.{row_seen};
+ghost use Rattle.reg_query.specs.Figures.{has_status, AreCounts, AreCountsAmiss, AreFigures, CountsConflicts, CountsGaps};
 
 use reg_disorder::{Disorder, count_amiss};
-use reg_op::{Op, OpBody, OpId, Status};
-use reg_report::{awaited, conflicts, gaps, rows};
+use reg_op::Status;
+use reg_report::{Row, awaited, conflicts_in, gaps, rows};
 use reg_state::Register;
 use std::alloc::{AllocError, Global};
 
@@ -36,15 +36,16 @@ pub struct Figures {
     pub withdrawn: usize,
 }
 
-/// The figures of a register.
+/// The figures of a register. Its rows are made once, for all of them.
 pub fn figures_of(alloc: Global, register: &Register) -> Result<Figures, AllocError>
     ensures { IfOk result (AreFigures register.now) }
 {
-    let counts = counts_of(alloc, register)?;
-    let conflicts = count_conflicts(alloc, register)?;
+    let rows = rows(alloc, register)?;
+    let counts = counts_in(&rows);
+    let conflicts = count_conflicts(alloc, &rows)?;
     let awaited = count_awaited(alloc, register)?;
     let gaps = count_gaps(alloc, register)?;
-    let amiss = amiss_of(alloc, register)?;
+    let amiss = amiss_in(alloc, &rows)?;
     Ok(Figures {
         operations: register.ops().as_slice().len(),
         entries: counts.entries,
@@ -69,74 +70,27 @@ pub(crate) struct EntryCounts {
     retired: usize,
 }
 
-fn counts_of(alloc: Global, register: &Register) -> Result<EntryCounts, AllocError>
-    ensures { IfOk result (AreCounts (rows register.now.ops)) }
-{
-    let statuses = statuses_of(alloc, register)?;
-    let counts = counts_in(&statuses);
-    Ok(counts)
-}
-
-// The status of each entry, by id.
-fn statuses_of(alloc: Global, register: &Register) -> Result<Vec<Status>, AllocError>
-    ensures { IfOk result (λ made. map (λ t. Some t) made.items ≡ map status_in (rows register.now.ops)) }
-{
-    let ops = register.ops().as_slice();
-    let mut made = Vec::new(alloc);
-    for op in ops {
-        push_status(&mut made, register, op)?;
-    }
-    Ok(made)
-}
-
-// Appends the status of the entry, if the operation enters one.
-fn push_status(statuses: &mut Vec<Status>, register: &Register, op: &Op) -> Result<(), AllocError>
-    requires { set.contains register.now.ops op.now ≡ true }
-    ensures { OnOk result (map (λ t. Some t) statuses.new.items ≡ map (λ t. Some t) statuses.old.items ++ map status_in (rows_at register.now.ops op.now.id op.now.body)) }
-{
-    match op.body() {
-        OpBody::Enter(_) => {}
-        OpBody::Supersede { old: _, newer: _ } => return Ok(()),
-        OpBody::Retire { entry: _ } => return Ok(()),
-    }
-    statuses.push(status_of(register, op.id()))?;
-    Ok(())
-}
-
-fn status_of(register: &Register, entry: OpId) -> Status
-    requires { enters register.now.ops entry ≡ true }
-    ensures { Some result ≡ status register.now.ops entry }
-{
-    let Some(status) = register.status(entry) else {
-        unreachable!();
-    };
-    status
-}
-
-fn counts_in(statuses: &[Status]) -> EntryCounts
-    ensures { CountStatuses (map (λ t. Some t) statuses.now) result }
+fn counts_in(rows: &[Row]) -> EntryCounts
+    ensures { AreCounts (map row_seen rows.now) result }
 {
     EntryCounts {
-        entries: statuses.len(),
-        valid: count_status(statuses, Status::Valid),
-        superseded: count_status(statuses, Status::Superseded),
-        retired: count_status(statuses, Status::Retired),
+        entries: rows.len(),
+        valid: count_status(rows, Status::Valid),
+        superseded: count_status(rows, Status::Superseded),
+        retired: count_status(rows, Status::Retired),
     }
 }
 
-fn count_status(statuses: &[Status], wanted: Status) -> usize
-    ensures { result ≡ count_by (is_status wanted) (map (λ t. Some t) statuses.now) }
+fn count_status(rows: &[Row], wanted: Status) -> usize
+    ensures { result ≡ count_by (has_status wanted) (map row_seen rows.now) }
 {
-    statuses
-        .iter()
-        .filter(|status| is_status(**status, wanted))
-        .count()
+    rows.iter().filter(|row| has_status(row, wanted)).count()
 }
 
-fn is_status(status: Status, wanted: Status) -> bool
-    ensures { result ≡ is_status wanted (Some status) }
+fn has_status(row: &Row, wanted: Status) -> bool
+    ensures { result ≡ has_status wanted (row_seen row.now) }
 {
-    status == wanted
+    row.status == wanted
 }
 
 /// The numbers of what is not in order.
@@ -147,13 +101,12 @@ pub(crate) struct DisorderCounts {
     withdrawn: usize,
 }
 
-fn amiss_of(alloc: Global, register: &Register) -> Result<DisorderCounts, AllocError>
-    ensures { IfOk result (AreCountsAmiss (rows register.now.ops)) }
+fn amiss_in(alloc: Global, rows: &[Row]) -> Result<DisorderCounts, AllocError>
+    ensures { IfOk result (AreCountsAmiss (map row_seen rows.now)) }
 {
-    let rows = rows(alloc, register)?;
-    let duplicates = count_amiss(alloc, &rows, Disorder::Duplicates)?;
-    let dangling = count_amiss(alloc, &rows, Disorder::Dangling)?;
-    let withdrawn = count_amiss(alloc, &rows, Disorder::Withdrawn)?;
+    let duplicates = count_amiss(alloc, rows, Disorder::Duplicates)?;
+    let dangling = count_amiss(alloc, rows, Disorder::Dangling)?;
+    let withdrawn = count_amiss(alloc, rows, Disorder::Withdrawn)?;
     Ok(DisorderCounts {
         duplicates,
         dangling,
@@ -161,10 +114,10 @@ fn amiss_of(alloc: Global, register: &Register) -> Result<DisorderCounts, AllocE
     })
 }
 
-fn count_conflicts(alloc: Global, register: &Register) -> Result<usize, AllocError>
-    ensures { IfOk result (CountsConflicts (rows register.now.ops)) }
+fn count_conflicts(alloc: Global, rows: &[Row]) -> Result<usize, AllocError>
+    ensures { IfOk result (CountsConflicts (map row_seen rows.now)) }
 {
-    let conflicts = conflicts(alloc, register)?;
+    let conflicts = conflicts_in(alloc, rows)?;
     Ok(conflicts.len())
 }
 

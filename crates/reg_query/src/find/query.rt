@@ -8,8 +8,10 @@ ghost use Rattle.crs_value.specs.Usages.{IsInArea, HasPoint};
 ghost use Rattle.reg_keys.specs.Words.{NamesKey};
 ghost use Rattle.reg_op.specs.Rows.{Row};
 ghost use Rattle.reg_report.specs.Conflicts.{bytes_of};
+ghost use Rattle.reg_query.specs.Texts.{IsInTexts};
 ghost use Rattle.reg_query.specs.Queries.{asks_value, is_colon, HasSome, IsBareCode, IsResolved, IsSought, IsTitled, IsWanted, MeetsOptions, MeetsTitle, MeetsValue};
 
+use crate::find::text::is_in_texts;
 use crs_part::CrsParts;
 use crs_value::Key;
 use crs_value::search::{Kind, Point, has_part, has_point, is_alike, is_in_area, is_of_kind};
@@ -44,6 +46,8 @@ pub struct Query<'a> {
     /// A point in a bounding box.
     pub at: Option<Point>,
     pub kind: Option<Kind>,
+    /// A part of the name of a datum, an ensemble, an ellipsoid or a method, or of the remark.
+    pub text: Option<&'a str>,
     pub status: Option<Wanted>,
 }
 
@@ -52,7 +56,7 @@ impl Query<'_> {
     pub(crate) fn asks_value(&self) -> bool
         ensures { result ≡ asks_value self.now }
     {
-        self.area.is_some() || self.at.is_some() || self.kind.is_some()
+        self.area.is_some() || self.at.is_some() || self.kind.is_some() || self.text.is_some()
     }
 }
 
@@ -188,11 +192,14 @@ fn wants(wanted: Wanted, status: Status) -> bool
     }
 }
 
-/// Whether a reference system meets the criteria for its areas, bounding boxes and kind.
+/// Whether a reference system meets the criteria for its areas, bounding boxes, kind and texts.
 pub(crate) fn meets_value(alloc: Global, query: &Query<'_>, crs: &CrsParts) -> bool
     ensures { IsTrue result ↔ MeetsValue query.now crs.now }
 {
-    is_area(alloc, query.area, crs) && is_at(query.at, crs) && is_kind(query.kind, crs)
+    is_area(alloc, query.area, crs)
+        && is_at(query.at, crs)
+        && is_kind(query.kind, crs)
+        && is_text(alloc, query.text, crs)
 }
 
 fn is_area(alloc: Global, asked: Option<&str>, crs: &CrsParts) -> bool
@@ -218,6 +225,15 @@ fn is_kind(asked: Option<Kind>, crs: &CrsParts) -> bool
 {
     match asked {
         Some(kind) => is_of_kind(crs, kind),
+        None => true,
+    }
+}
+
+fn is_text(alloc: Global, asked: Option<&str>, crs: &CrsParts) -> bool
+    ensures { IsTrue result ↔ IfSome asked.entry (λ part. IsInTexts part.now crs.now) }
+{
+    match asked {
+        Some(part) => is_in_texts(alloc, crs, part.as_bytes()),
         None => true,
     }
 }

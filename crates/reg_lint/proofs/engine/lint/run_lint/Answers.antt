@@ -4,12 +4,12 @@ use Rattle.reg_lint.specs.Subjects.{AreKept}
 use Rattle.reg_lint.specs.EngineLint.{AreUnlinted}
 use Rattle.reg_lint.proofs.engine.lint.run_lint.Goals as goal
 
-pub returns-in-Err-live_subjects-clause-fault : goal.returns-in-Err-live_subjects-clause-fault
-returns-in-Err-live_subjects-clause-fault g c = inr (c.in-Ok.register, c.in-Ok.ensures.came, inl (refl, refl, refl))
+pub returns-in-Err-subjects_with-clause-fault : goal.returns-in-Err-subjects_with-clause-fault
+returns-in-Err-subjects_with-clause-fault g c = inr (c.in-Ok.register, c.in-Ok.ensures.came, inl (refl, refl, refl))
 
 pub returns-in-Ok-run_lint_kept-clause-printed : goal.returns-in-Ok-run_lint_kept-clause-printed
 returns-in-Ok-run_lint_kept-clause-printed g c =
-    let live = c.in-Ok-live_subjects.ensures in (
+    let live = c.in-Ok-subjects_with.ensures in (
       c.in-Ok.register,
       live.0,
       c.in-Ok.ensures.came,
@@ -19,7 +19,7 @@ returns-in-Ok-run_lint_kept-clause-printed g c =
 
 pub returns-in-Err-run_lint_kept-clause-fault : goal.returns-in-Err-run_lint_kept-clause-fault
 returns-in-Err-run_lint_kept-clause-fault g c =
-    let live = c.in-Ok-live_subjects.ensures in
+    let live = c.in-Ok-subjects_with.ensures in
     inr (
       c.in-Ok.register,
       c.in-Ok.ensures.came,

@@ -1,6 +1,0 @@
-use Rattle.std.proofs.Common.{◌∙◌}
-use Rattle.reg_report.proofs.PairLemmas.{is_member}
-use Rattle.reg_query.proofs.figures.register.statuses_of.Goals as goal
-
-pub push_status-requires : goal.push_status-requires
-push_status-requires c = is_member c.args.register.now.ops c.as_slice-ops.result.now c.loop-op.op-index c.op-item.result (c.as_slice-ops.ensures ∙ c.ops.ensures.items) c.loop-op-test.true c.op-item.is
