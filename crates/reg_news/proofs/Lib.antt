@@ -1,4 +1,5 @@
 mod KeyLemmas
+mod CodeLemmas
 mod RisenLemmas
 mod TellingLemmas
 mod RevivedLemmas
