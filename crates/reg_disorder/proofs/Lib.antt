@@ -12,7 +12,6 @@ mod LinksListed
 mod ForHeirs
 pub mod Rows
 pub mod Passes
-mod OldRows
 mod Steps
 pub mod Settled
 mod Candidates

@@ -5,9 +5,7 @@ pub mod laws;
 mod link;
 mod passing;
 mod retiring;
-mod superseded;
 
 pub use link::{Link, links};
 pub use passing::{Passed, pass_on};
 pub use retiring::{Retired, retire_for_heirs};
-pub use superseded::old_rows;
