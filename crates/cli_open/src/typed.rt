@@ -1,7 +1,9 @@
 //! The entries that words of the command line name: by an id, or as tables show an id, by the name of its office.
 
-ghost use Rattle.std.specs.Prelude.{IfOk};
-ghost use Rattle.cli_open.specs.Typed.{NamesEntry};
+ghost use Rattle.std.specs.Prelude.{◌≡◌, IfOk, IfErr, Ok};
+ghost use Rattle.reg_op.specs.Ids.{Id};
+ghost use Rattle.reg_op.specs.Text.{Spells};
+ghost use Rattle.cli_open.specs.Typed.{NamesEntry, IsUnnamed};
 
 use crate::naming::names_again;
 use clap::ArgMatches;
@@ -35,7 +37,9 @@ pub fn entries(
 
 // The entry with the id that the word is, or that it is with the UUID of an office in the place of its name.
 fn named(alloc: Global, names: &[Name], word: &[u8]) -> Result<OpId, CliFault>
-    ensures { IfOk result (λ i. NamesEntry names.now word.now i) }
+    ensures found { IfOk result (λ i. NamesEntry names.now word.now i) }
+    ensures id { (i : Id) → Spells word.now i → result ≡ Ok i }
+    ensures fault { IfErr result (IsUnnamed names.now word.now) }
 {
     if let Some(id) = OpId::parse(word) {
         return Ok(id);
