@@ -64,6 +64,7 @@ fn register_at(rt: &HostRuntime, path: &str) -> Option<Register> {
 }
 
 /// So many operations of a register are lost.
+#[derive(Clone, Copy)]
 struct Lost<'a> {
     count: usize,
     path: &'a str,

@@ -64,6 +64,7 @@ fn searched_name<'a>(node: Node<'a>) -> Option<&'a Text>
 }
 
 /// Looks for a part of a text in the names of nodes.
+#[derive(Drop)]
 struct Finder<'p> {
     alloc: Global,
     part: &'p [u8],
