@@ -7,7 +7,7 @@ ghost use Rattle.cli_change.specs.declared.change.ToldLine.{ToldLine};
 ghost use Rattle.cli_change.specs.Lists.{IsStopped, IsPlainOutcome, IsAtLine, IsListFault, IsListDone, IsListOutcome};
 
 use crate::by_words::changed_by_words;
-use crate::changing::{Says, change_of};
+use crate::changing::change_of;
 use crate::offices::{Desk, office_named, open_desk};
 use crate::once::changed_once;
 use byte_out::Place;
@@ -93,7 +93,7 @@ fn supersede_named(rt: &HostRuntime, matches: &ArgMatches<'_>) -> Result<(), Cli
             newer: &given,
             command: &SupersedeOf { replica, note },
         };
-        return changed_by_words(rt, matches, &mut desk, &command, Says::OtherCodes);
+        return changed_by_words(rt, matches, &mut desk, &command);
     }
     let old = entry(rt, matches, word(matches, "OLD"))?;
     push_listed(&mut given, matches.get_strs("BY").unwrap_or(&[]), &listed)?;
@@ -105,7 +105,7 @@ fn supersede_named(rt: &HostRuntime, matches: &ArgMatches<'_>) -> Result<(), Cli
         newer: &newer,
         note,
     };
-    changed_once(rt, matches, &mut desk, command, Says::OtherCodes)
+    changed_once(rt, matches, &mut desk, command)
 }
 
 // `supersede --from`. The list is opened after the register.
@@ -147,7 +147,7 @@ fn supersede_from_at<Q: Place>(
         refused: Vec::new(rt.alloc()),
         text: Vec::new(rt.alloc()),
     };
-    let answer = change_of(rt, matches, desk, target, &mut command, Says::OtherCodes);
+    let answer = change_of(rt, matches, desk, target, &mut command);
     let refused = RefusedLines {
         lines: command.refused,
         list: command.text,
@@ -272,7 +272,7 @@ fn retired(rt: &HostRuntime, matches: &ArgMatches<'_>) -> Result<(), CliFault> {
             newer: &[],
             command: &RetireOf { replica, note },
         };
-        return changed_by_words(rt, matches, &mut desk, &command, Says::Codes);
+        return changed_by_words(rt, matches, &mut desk, &command);
     }
     let entries = entries(rt, matches, &given)?;
     let mut desk = open_desk(rt, rt.alloc(), named, word(matches, "office"))?;
@@ -281,5 +281,5 @@ fn retired(rt: &HostRuntime, matches: &ArgMatches<'_>) -> Result<(), CliFault> {
         entries: &entries,
         note,
     };
-    changed_once(rt, matches, &mut desk, command, Says::Codes)
+    changed_once(rt, matches, &mut desk, command)
 }

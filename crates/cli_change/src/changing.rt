@@ -5,27 +5,10 @@ use byte_out::Place;
 use clap::ArgMatches;
 use cli_open::{RegisterTarget, explains, open_target, word};
 use reg_engine::{Change, CliFault, Keep, run_change};
-use reg_news::{News, OfCodes};
+use reg_news::News;
 use reg_news::watch::{Told, change_and_tell};
 use std::fs::File;
 use std::io::{self, Write};
-
-/// What the last sentence of a command says, where sentences are on: what became of codes, or all that the change brought.
-#[derive(Clone, Copy, PartialEq, Eq)]
-pub enum Says {
-    Nothing,
-    Codes,
-    /// Of a command that was told which codes to supersede: what became of codes otherwise.
-    OtherCodes,
-    All,
-}
-
-impl Says {
-    /// This, where sentences are on.
-    pub fn where_on(self, matches: &ArgMatches<'_>) -> Says {
-        if explains(matches) { self } else { Says::Nothing }
-    }
-}
 
 /// Opens the register and changes it as the office, whose new file is removed afterwards if it was not used. Where sentences are on, the
 /// last one says what the change brought.
@@ -36,35 +19,44 @@ pub fn changed<Q: Place, C: Change>(
     command: &mut C,
 ) -> Result<(), CliFault> {
     let answer = match open_target(rt, matches, word(matches, "out")) {
-        Ok(target) => change_of(rt, matches, desk, target, command, Says::All),
+        Ok(target) => change_in(rt, matches, desk, target, command, explains(matches)),
         Err(fault) => Err(fault),
     };
     desk.close();
     answer
 }
 
-/// Changes the register as the office, and prints the command's lines, unless `--quiet` is given. Where sentences are on, the last one
-/// says what became of codes.
+/// Changes the register as the office, and prints the command's lines, unless `--quiet` is given.
 pub fn change_of<Q: Place, P: Place + Drop, C: Change>(
     rt: &HostRuntime,
     matches: &ArgMatches<'_>,
     desk: &mut Desk<Q>,
     target: RegisterTarget<File, P>,
     command: &mut C,
-    says: Says,
 ) -> Result<(), CliFault> {
-    let says = says.where_on(matches);
+    change_in(rt, matches, desk, target, command, false)
+}
+
+// The same; with `tells`, the last sentence says what the change brought.
+fn change_in<Q: Place, P: Place + Drop, C: Change>(
+    rt: &HostRuntime,
+    matches: &ArgMatches<'_>,
+    desk: &mut Desk<Q>,
+    target: RegisterTarget<File, P>,
+    command: &mut C,
+    tells: bool,
+) -> Result<(), CliFault> {
     if matches.get_flag("quiet") {
         let mut sink = Writing::new(io::sink());
-        return change_to(rt, says, desk, target, command, &mut sink);
+        return change_to(rt, tells, desk, target, command, &mut sink);
     }
     let mut sink = Writing::new(io::writer(rt));
-    change_to(rt, says, desk, target, command, &mut sink)
+    change_to(rt, tells, desk, target, command, &mut sink)
 }
 
 fn change_to<Q: Place, P: Place + Drop, C: Change, W: Write>(
     rt: &HostRuntime,
-    says: Says,
+    tells: bool,
     desk: &mut Desk<Q>,
     target: RegisterTarget<File, P>,
     command: &mut C,
@@ -72,36 +64,26 @@ fn change_to<Q: Place, P: Place + Drop, C: Change, W: Write>(
 ) -> Result<(), CliFault> {
     let mut target = target;
     let mut store = target.store(&mut desk.file);
-    let answer = change_and_say(rt, says, &mut store, command, sink);
+    let answer = if tells {
+        change_and_say(rt, &mut store, command, sink)
+    } else {
+        run_change(rt.alloc(), &mut store, command, sink)
+    };
     drop(store);
     drop(target);
     answer
 }
 
-/// Changes what a store has, and says what became of that.
-pub fn change_and_say<T: Keep, C: Change, W: Write>(
+fn change_and_say<T: Keep, C: Change, W: Write>(
     rt: &HostRuntime,
-    says: Says,
     store: &mut T,
     command: &mut C,
     sink: &mut Writing<W>,
 ) -> Result<(), CliFault> {
-    if says == Says::Nothing {
-        return run_change(rt.alloc(), store, command, sink);
-    }
     let Told { answer, news } = change_and_tell(rt.alloc(), store, command, sink);
-    let Ok(Some(news)) = &news else {
-        return answer;
-    };
-    if says == Says::All {
-        let _ = eprint!(rt; "{news}");
-        return answer;
+    if let Ok(news) = &news {
+        say_news(rt, news);
     }
-    let codes = OfCodes {
-        news,
-        superseded: says == Says::Codes,
-    };
-    let _ = eprint!(rt; "{codes}");
     answer
 }
 

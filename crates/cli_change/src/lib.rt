@@ -8,6 +8,6 @@ mod offices;
 mod once;
 
 pub use change::{ListFault, Superseded, TWICE, ToldLine, retire, supersede};
-pub use changing::{Says, change_of, changed, say_news};
+pub use changing::{change_of, changed, say_news};
 pub use offices::{Desk, misnamed, office, office_named, open_desk};
 pub use once::change_once;

@@ -1,5 +1,5 @@
 //! Says what a command brought, and what no row shows of it.
-use crate::undone::say_joined;
+use crate::undone::say_undone;
 use cli_faults::{CommandFiles, say};
 use reg_news::gained::{hidden_in, revived_in};
 use reg_news::news_of;
@@ -23,12 +23,12 @@ pub fn say_gained(rt: &HostRuntime, gained: &Gained, named: &Option<CommandFiles
     let Some(named) = named else {
         return;
     };
-    let news = news_of(rt.alloc(), &gained.before, &gained.after);
-    let inputs = match &gained.inputs {
-        Some(inputs) => inputs.as_slice(),
-        None => &[],
-    };
-    say_joined(rt, news, inputs, &gained.after, named);
+    if let Ok(news) = news_of(rt.alloc(), &gained.before, &gained.after) {
+        say(rt, &news, named);
+    }
+    if let Some(inputs) = &gained.inputs {
+        say_undone(rt, inputs, &gained.after, named);
+    }
     if let Ok(hidden) = hidden_in(rt.alloc(), &gained.before, &gained.after) {
         say(rt, &hidden, named);
     }
@@ -42,14 +42,13 @@ pub fn say_gained(rt: &HostRuntime, gained: &Gained, named: &Option<CommandFiles
 
 /// Says what a merge brought to the first register, and what it undid, if there is memory for the sentences.
 pub fn say_merged(rt: &HostRuntime, merged: &Merged, named: &CommandFiles<'_>) {
-    let news = merged.news(rt.alloc());
-    if merged.pieces.is_empty() {
-        return say_joined(rt, news, &merged.registers, &merged.joined, named);
+    if let Ok(news) = merged.news(rt.alloc()) {
+        say(rt, &news, named);
     }
-    let inputs = merged.inputs(rt.alloc());
-    let inputs = match &inputs {
-        Ok(inputs) => inputs.as_slice(),
-        Err(_) => &[],
-    };
-    say_joined(rt, news, inputs, &merged.joined, named);
+    if merged.pieces.is_empty() {
+        return say_undone(rt, &merged.registers, &merged.joined, named);
+    }
+    if let Ok(inputs) = merged.inputs(rt.alloc()) {
+        say_undone(rt, &inputs, &merged.joined, named);
+    }
 }

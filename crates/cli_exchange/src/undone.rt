@@ -2,13 +2,10 @@
 use clap::ArgMatches;
 use cli_faults::{CommandFiles, say};
 use cli_open::print;
-use crs_value::Key;
 use reg_engine::CliFault;
-use reg_news::News;
 use reg_report::KeyText;
 use reg_state::Register;
 use reg_tree::undone::{SayingText, undone_in};
-use std::alloc::AllocError;
 use std::fmt::{self, Write as _};
 use std::io::{self, Write};
 use std::str;
@@ -68,38 +65,15 @@ struct UnlistedSaid<'a> {
     sayings: &'a [SayingText<'a>],
 }
 
-/// Says what a join brought, where it is known, and what the join of the inputs undid, if there is memory for it. A code that was undone is not
-/// told as in use again.
-pub fn say_joined(
+/// Says what the join of the inputs undid, if there is memory for it.
+pub fn say_undone(
     rt: &HostRuntime,
-    news: Result<News, AllocError>,
     inputs: &[Register],
     join: &Register,
     named: &CommandFiles<'_>,
 ) {
-    let undone = undone_in(rt.alloc(), inputs, join);
-    if let Ok(mut news) = news {
-        if let Ok(sayings) = &undone {
-            news.codes
-                .retain(|code| code.superseded || !is_undone(sayings, &code.key));
-        }
-        say(rt, &news, named);
-    }
-    if let Ok(sayings) = &undone {
-        say(rt, &UndoneSaid { sayings }, named);
-    }
-}
-
-// Whether one of the sayings, which ascend by key, is about the key.
-fn is_undone(sayings: &[SayingText<'_>], key: &Key) -> bool {
-    let key = KeyText {
-        authority: key.authority.as_bytes(),
-        code: key.code.as_bytes(),
-    };
-    let at = sayings.partition_point(|saying| saying.key.cmp(&key).is_lt());
-    match sayings.get(at) {
-        Some(saying) => saying.key == key,
-        None => false,
+    if let Ok(sayings) = undone_in(rt.alloc(), inputs, join) {
+        say(rt, &UndoneSaid { sayings: &sayings }, named);
     }
 }
 

@@ -2,7 +2,7 @@
 use byte_io::Source;
 use byte_out::Place;
 use clap::ArgMatches;
-use cli_change::{Desk, Says, change_once, office_named, open_desk};
+use cli_change::{Desk, change_once, office_named, open_desk};
 use cli_open::ending::{Outcome, ended};
 use cli_open::{RegisterTarget, explains, files_before, open, open_target, word};
 use reg_commands::Enter;
@@ -65,7 +65,7 @@ fn enter_text<Q: Place, P: Place + Drop, X: Source>(
         text,
         note: word(matches, "note"),
     };
-    change_once(rt, matches, desk, target, command, Says::Codes)
+    change_once(rt, matches, desk, target, command)
 }
 
 // A fault without an explanation.

@@ -1,5 +1,4 @@
 mod KeyLemmas
-mod CodeLemmas
 mod RisenLemmas
 mod TellingLemmas
 mod RevivedLemmas
