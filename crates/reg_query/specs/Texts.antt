@@ -2,7 +2,7 @@
 use Rattle.std.specs.Prelude.{◌⊎◌, ℕ, List, [], Option, Some, None}
 use Rattle.std.specs.List.{Any}
 use Rattle.crs_names.specs.Nodes.{Part, of_parts}
-use Rattle.crs_names.specs.Nodes.Part.{OfName, OfId, OfUnit, OfEllipsoid, OfMeridian, OfDatum, OfEnsemble, OfVerticalDatum, OfVerticalEnsemble, OfMethod, OfParameter, OfConversion, OfBase, OfGeodetic}
+use Rattle.crs_names.specs.Nodes.Part.{OfEllipsoid, OfDatum, OfEnsemble, OfVerticalDatum, OfVerticalEnsemble, OfMethod}
 use Rattle.crs_part.specs.declared.text.Text.{Text}
 use Rattle.crs_part.specs.declared.crs.CrsParts.{CrsParts}
 use Rattle.crs_part.specs.declared.crs.CrsParts.TheVariants as whole

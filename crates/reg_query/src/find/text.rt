@@ -29,7 +29,7 @@ pub(crate) fn is_in_texts(alloc: Global, crs: &CrsParts, part: &[u8]) -> bool
 }
 
 fn has_text_part(alloc: Global, text: Option<&Text>, part: &[u8]) -> bool
-    ensures { IsTrue result ↔ HasTextPart part.now (option_map (λ text. text.now) text) }
+    ensures { IsTrue result ↔ HasTextPart part.now (option_map (λ text. text.now) text.entry) }
 {
     match text {
         Some(text) => has_part(alloc, text.as_bytes(), part),
