@@ -38,9 +38,9 @@ module _ (rs : List Row) (up : Ascends row_cmp rs) (r : Row) where
   same_successor newer s t a b =
       let key = one_key r.definition s.key t.key a.keyed b.keyed in
       let text : s.text ≡ t.text = a.text ∙ sym b.text in
-      let superseded : s.superseded ≡ t.superseded = a.superseded ∙ sym b.superseded in
+      let valid : s.valid ≡ t.valid = a.superseded ∙ sym b.superseded in
       let by = one_by newer.definition s.by t.by a.by b.by in
-      λ j. record { key = key j; text = text j; superseded = superseded j; by = by j }
+      λ j. record { key = key j; text = text j; valid = valid j; by = by j }
 
   one_newer : (e : Id) (a b : Row) → HasRow rs e a → HasRow rs e b → a ≡ b
   one_newer e a b h k = one_row rs up a b h.there k.there (h.is ∙ sym k.is)
@@ -72,9 +72,9 @@ module _ (rs : List Row) (up : Ascends row_cmp rs) (r : Row) where
   same_status s t a b =
       let key = one_key r.definition s.key t.key a.of.keyed b.of.keyed in
       let text : s.text ≡ t.text = a.of.text ∙ sym b.of.text in
-      let superseded = one_test _ s.superseded t.superseded a.status b.status in
+      let valid = one_test _ s.valid t.valid a.status b.status in
       let by : s.by ≡ t.by = a.by ∙ sym b.by in
-      λ j. record { key = key j; text = text j; superseded = superseded j; by = by j }
+      λ j. record { key = key j; text = text j; valid = valid j; by = by j }
 
   of_row : (mine : List Said) → AreOfRow rs r mine → (s : Said) → Contains mine s ↔ SaysOf s
   of_row mine (inl (live, (first, later, status, each, is))) s = (

@@ -28,7 +28,7 @@ use Rattle.reg_texts.proofs.OrderLemmas.{dedup_ascends, same_items}
 pub said_total : IsTotalOrder said_cmp
 said_total =
     then_total (on_total (λ (s : Said). s.key) key_total)
-    (then_total (on_total (λ (s : Said). s.text) nat_list_cmp_total) (then_total (on_total (λ (s : Said). s.superseded) bool_cmp_total) (on_total (λ (s : Said). s.by) (options_total key_total))))
+    (then_total (on_total (λ (s : Said). s.text) nat_list_cmp_total) (then_total (on_total (λ (s : Said). s.valid) bool_cmp_total) (on_total (λ (s : Said). s.by) (options_total key_total))))
 
 bool_exact : (a b : Bool) → bool_cmp a b ≡ Equal → a ≡ b
 bool_exact true true e = refl
@@ -46,25 +46,25 @@ said_exact : IsAntisymmetric said_cmp
 said_exact a b e =
     let k = both_equal (key_cmp a.key b.key) _ e in
     let t = both_equal (slice_cmp nat_cmp a.text b.text) _ k.1 in
-    let s = both_equal (bool_cmp a.superseded b.superseded) _ t.1 in
+    let s = both_equal (bool_cmp a.valid b.valid) _ t.1 in
     let key : a.key ≡ b.key = key_exact _ _ k.0 in
     let text : a.text ≡ b.text = bytes_exact _ _ t.0 in
-    let superseded : a.superseded ≡ b.superseded = bool_exact _ _ s.0 in
+    let valid : a.valid ≡ b.valid = bool_exact _ _ s.0 in
     let by : a.by ≡ b.by = by_exact _ _ s.1 in
-    λ j. record { key = key j; text = text j; superseded = superseded j; by = by j }
+    λ j. record { key = key j; text = text j; valid = valid j; by = by j }
 
 -- ---- the derived comparisons of `Saying`
 
 abbrev saying_cmp : Saying → Saying → Ordering
 saying_cmp a b =
     ordering_then (text_cmp a.key b.key)
-    (ordering_then (slice_cmp nat_cmp a.text.now b.text.now) (ordering_then (bool_cmp a.superseded b.superseded) (option_cmp text_cmp a.by b.by)))
+    (ordering_then (slice_cmp nat_cmp a.text.now b.text.now) (ordering_then (bool_cmp a.valid b.valid) (option_cmp text_cmp a.by b.by)))
 
 abbrev key_eq : KeyText → KeyText → Bool
 key_eq a b = bytes_eq a.authority.now b.authority.now && bytes_eq a.code.now b.code.now
 
 abbrev saying_eq : Saying → Saying → Bool
-saying_eq a b = key_eq a.key b.key && (bytes_eq a.text.now b.text.now && (beq a.superseded b.superseded && option_eq key_eq a.by b.by))
+saying_eq a b = key_eq a.key b.key && (bytes_eq a.text.now b.text.now && (beq a.valid b.valid && option_eq key_eq a.by b.by))
 
 by_cmp : (x y : Option KeyText) → option_cmp text_cmp x y ≡ option_cmp key_cmp (by_bytes x) (by_bytes y)
 by_cmp None None = refl
@@ -73,7 +73,7 @@ by_cmp (Some k) None = refl
 by_cmp (Some k) (Some l) = refl
 
 cmp_is : (a b : Saying) → saying_cmp a b ≡ said_cmp (said a) (said b)
-cmp_is a b = ap (λ o. ordering_then (text_cmp a.key b.key) (ordering_then (slice_cmp nat_cmp a.text.now b.text.now) (ordering_then (bool_cmp a.superseded b.superseded) o))) (by_cmp a.by b.by)
+cmp_is a b = ap (λ o. ordering_then (text_cmp a.key b.key) (ordering_then (slice_cmp nat_cmp a.text.now b.text.now) (ordering_then (bool_cmp a.valid b.valid) o))) (by_cmp a.by b.by)
 
 same_key : (a b : KeyText) → key_eq a b ≡ true → key_bytes a ≡ key_bytes b
 same_key a b h =
@@ -112,12 +112,12 @@ eq_exact a b = (
       let r = and_parts _ _ q.1 in
       let key = same_key a.key b.key p.0 in
       let text = (bytes_eq-Decides a.text.now b.text.now).0 q.0 in
-      let superseded = (booleans_Decides a.superseded b.superseded).0 r.0 in
+      let valid = (booleans_Decides a.valid b.valid).0 r.0 in
       let by = same_by a.by b.by r.1 in
-      λ j. record { key = key j; text = text j; superseded = superseded j; by = by j },
+      λ j. record { key = key j; text = text j; valid = valid j; by = by j },
   λ e. and_from _ _ (same_key_back a.key b.key (ap (λ (s : Said). s.key) e))
       (and_from _ _ ((bytes_eq-Decides a.text.now b.text.now).1 (ap (λ (s : Said). s.text) e))
-      (and_from _ _ ((booleans_Decides a.superseded b.superseded).1 (ap (λ (s : Said). s.superseded) e)) (same_by_back a.by b.by (ap (λ (s : Said). s.by) e)))),
+      (and_from _ _ ((booleans_Decides a.valid b.valid).1 (ap (λ (s : Said). s.valid) e)) (same_by_back a.by b.by (ap (λ (s : Said). s.by) e)))),
 )
 
 -- ---- sorting, and removing repeats

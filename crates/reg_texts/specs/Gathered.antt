@@ -1,5 +1,5 @@
 -- The statements, row by row.
-use Rattle.std.specs.Prelude.{◌≡◌, ◌⊎◌, true, List, [], ◌∷◌, ◌++◌, Some}
+use Rattle.std.specs.Prelude.{◌≡◌, ◌⊎◌, false, List, [], ◌∷◌, ◌++◌, Some}
 use Rattle.reg_op.specs.Ids.{Id}
 use Rattle.reg_op.specs.Rows.{Row}
 use Rattle.reg_report.specs.Conflicts.{KeyBytes, HasKey}
@@ -16,7 +16,7 @@ module _ {X Y : Type 0} (Gives : X → List Y → Type 0) where
 pub record IsOfSuccessor (r newer : Row) (s : Said) : Type 0 where
   pub text : s.text ≡ r.definition
   pub keyed : HasKey r.definition s.key
-  pub superseded : s.superseded ≡ true
+  pub superseded : s.valid ≡ false
   pub by : (k : KeyBytes) × (s.by ≡ Some k) × HasKey newer.definition k
 
 -- what a row's successor adds: its key, or nothing if it is retired

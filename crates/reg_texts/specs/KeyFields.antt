@@ -60,14 +60,14 @@ sides_of (Some b) = record { south = numeral b.south; west = numeral b.west; nor
 abbrev pub side_texts : BoxNumerals → SideTexts
 side_texts s = record { south = s.south.items; west = s.west.items; north = s.north.items; east = s.east.items }
 
--- ---- the status: a text is valid if some entry with it is valid
+-- ---- the status: a text is superseded if some entry with it is
 
 abbrev pub status_word : Said → List ℕ
-status_word s = if s.superseded then codes "superseded" else codes "valid"
+status_word s = if s.valid then codes "valid" else codes "superseded"
 
 -- the keys of all successors, with one space between
 abbrev pub replaced_by : Said → List Said → List ℕ
-replaced_by s others = if s.superseded then drop 1 (flat_map successor_text others) else []
+replaced_by s others = if s.valid then [] else drop 1 (flat_map successor_text others)
 
 abbrev pub sheet_header : List (List ℕ)
 sheet_header =

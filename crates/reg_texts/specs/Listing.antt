@@ -34,10 +34,9 @@ successor_text s = spaced_key s.by
 abbrev pub by_text : List Said → List ℕ
 by_text ss = if list_any names_successor ss then codes " by" ++ flat_map successor_text ss else []
 
--- the status of a text, given the statements about it: a text is valid if some entry with it is valid, even if another one is
--- superseded
+-- the status of a text, given the statements about it: a text is superseded if some entry with it is, even if another one is valid
 abbrev pub status_text : Said → List Said → List ℕ
-status_text s others = if s.superseded then codes "superseded" ++ by_text others else codes "valid"
+status_text s others = if s.valid then codes "valid" else codes "superseded" ++ by_text others
 
 -- the key and the status, the indented text, and an empty line
 pub record IsBlock (s : Said) (others : List Said) (block : List ℕ) : Type 0 where

@@ -64,7 +64,7 @@ fn status_of<'a>(row: &'a Row) -> Saying<'a>
     Saying {
         key: key_of(row),
         text: row.definition.as_bytes(),
-        superseded: row.status == Status::Superseded,
+        valid: row.status == Status::Valid,
         by: None,
     }
 }
@@ -76,7 +76,7 @@ fn successor_of<'a>(row: &'a Row, newer: &'a Row) -> Saying<'a>
     Saying {
         key: key_of(row),
         text: row.definition.as_bytes(),
-        superseded: true,
+        valid: false,
         by: Some(key_of(newer)),
     }
 }

@@ -121,10 +121,10 @@ fn sides_in(alloc: Global, usages: &[Usage]) -> Result<BoxNumerals, AllocError>
 fn status_word<'a>(saying: &'a Saying<'_>) -> &'a [u8]
     ensures { result.now ≡ status_word (said saying.now) }
 {
-    if saying.superseded {
-        b"superseded"
-    } else {
+    if saying.valid {
         b"valid"
+    } else {
+        b"superseded"
     }
 }
 
@@ -159,12 +159,12 @@ fn successors(alloc: Global, others: &[Saying]) -> Result<Vec<u8>, AllocError>
 }
 
 fn replaced_by<'a>(first: &Saying, keys: &'a [u8]) -> &'a [u8]
-    ensures { (others : List ℕ) → keys.now ≡ others → result.now ≡ (if (said first.now).superseded then drop 1 others else []) }
+    ensures { (others : List ℕ) → keys.now ≡ others → result.now ≡ (if (said first.now).valid then [] else drop 1 others) }
 {
-    if first.superseded {
-        return without_first(keys);
+    if first.valid {
+        return b"";
     }
-    b""
+    without_first(keys)
 }
 
 fn write_line(

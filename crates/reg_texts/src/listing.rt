@@ -66,7 +66,7 @@ fn push_status(
 ) -> Result<(), AllocError>
     ensures { OnOk result (text.new.items ≡ text.old.items ++ status_text (said first.now) (map said others.now)) }
 {
-    if !first.superseded {
+    if first.valid {
         text.extend_from_slice(b"valid")?;
         return Ok(());
     }
