@@ -1,4 +1,6 @@
 mod KeyLemmas
+mod CodeLemmas
+mod CodeLaws
 mod RisenLemmas
 mod TellingLemmas
 mod RevivedLemmas

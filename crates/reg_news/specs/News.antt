@@ -14,6 +14,7 @@ use Rattle.reg_op.specs.declared.status.Status.TheVariants.{Valid, Superseded, R
 use Rattle.reg_report.specs.declared.gap.Gap.{Gap}
 use Rattle.reg_report.specs.Gaps.{AreGaps}
 use Rattle.reg_news.specs.declared.news.News.{News}
+use Rattle.reg_news.specs.Codes.{AreTold, code_seen}
 use Rattle.reg_news.specs.Keys.{fresh_keys}
 
 abbrev pub is_status : Status → Status → Bool
@@ -56,6 +57,7 @@ pub record IsNews (x y : Content) (n : News) : Type 0 where
   pub conflicts : AreFresh AreInConflict (rows x.ops) (rows y.ops) (map bytes_of n.conflicts.items)
   pub duplicates : AreFresh (HaveAmiss Duplicates) (rows x.ops) (rows y.ops) (map bytes_of n.duplicates.items)
   pub dangling : AreFresh (HaveAmiss Dangling) (rows x.ops) (rows y.ops) (map bytes_of n.dangling.items)
+  pub codes : AreTold (rows x.ops) (rows y.ops) (map code_seen n.codes.items)
   pub withdrawn : AreFresh (HaveAmiss Withdrawn) (rows x.ops) (rows y.ops) (map bytes_of n.withdrawn.items)
   pub awaited_before : n.awaited.before ≡ length (set.items (awaited x.ops))
   pub awaited : n.awaited.now ≡ length (set.items (awaited y.ops))

@@ -7,7 +7,7 @@ ghost use Rattle.reg_report.specs.Keys.{key_bytes};
 ghost use Rattle.reg_disorder.specs.Keys.{has_key, PutsKey};
 ghost use Rattle.reg_news.specs.Keys.{same_key, fresh_keys, HasKeys};
 
-use crs_part::{Text, TryClone};
+use crs_part::{Many, Text, TryClone};
 use crs_value::Key;
 use reg_report::KeyText;
 use std::alloc::{AllocError, Global};
@@ -46,6 +46,25 @@ pub fn push_key(
         code: code.try_clone(alloc)?,
     })?;
     Ok(())
+}
+
+fn text_from(alloc: Global, bytes: &[u8]) -> Result<Text, AllocError>
+    ensures { IfOk result (λ text. text.bytes ≡ bytes.now) }
+{
+    let Some(text) = Text::from_utf8(Many::copied(alloc, bytes)?) else {
+        return Err(AllocError);
+    };
+    Ok(text)
+}
+
+/// A copy of a key.
+pub fn key_from(alloc: Global, key: &KeyText<'_>) -> Result<Key, AllocError>
+    ensures { IfOk result (λ made. bytes_of made ≡ key_bytes key.now) }
+{
+    Ok(Key {
+        authority: text_from(alloc, key.authority)?,
+        code: text_from(alloc, key.code)?,
+    })
 }
 
 fn put_key<'a>(known: &mut BTreeSet<KeyText<'a>>, key: &'a Key) -> Result<(), AllocError>

@@ -6,10 +6,13 @@ ghost use Rattle.reg_op.specs.declared.status.Status.TheVariants.{Superseded, Re
 ghost use Rattle.reg_op.specs.Rows.{rows, awaited};
 ghost use Rattle.reg_report.specs.Conflicts.{bytes_of};
 ghost use Rattle.reg_report.specs.Contenders.{conflict_seen};
+ghost use Rattle.reg_op.specs.Set.{Ascends};
+ghost use Rattle.reg_report.specs.Rows.{row_cmp};
 ghost use Rattle.reg_report.specs.Seen.{row_seen};
 ghost use Rattle.reg_disorder.specs.Lists.{listed_seen};
 ghost use Rattle.reg_news.specs.News.{has_status, count_of, CountsGaps, AreInConflict, HaveAmiss, AreFresh, IsNews};
 
+use crate::codes::{Code, codes_between};
 use crate::keys::{fresh, push_key};
 use crs_value::Key;
 use reg_disorder::{Disorder, ListedEntry, amiss};
@@ -37,6 +40,8 @@ pub struct News {
     pub duplicates: Vec<Key>,
     /// Keys with a superseded entry from which no chain leads to a valid one, and that had none before.
     pub dangling: Vec<Key>,
+    /// Codes that are in use again, and those that are superseded anew.
+    pub codes: Vec<Code>,
     /// Keys whose entries are all retired now.
     pub withdrawn: Vec<Key>,
     /// Awaited ids.
@@ -171,6 +176,8 @@ fn news_between(
 ) -> Result<News, AllocError>
     requires earlier { map row_seen earlier.now ≡ rows old.now.ops }
     requires later { map row_seen later.now ≡ rows new.now.ops }
+    requires earlier_order { Ascends row_cmp (map row_seen earlier.now) }
+    requires later_order { Ascends row_cmp (map row_seen later.now) }
     ensures { IfOk result (IsNews old.now new.now) }
 {
     let awaited = grown_awaited(alloc, old, new)?;
@@ -190,6 +197,7 @@ fn news_between(
     let conflicts = fresh_conflicts(alloc, old, new)?;
     let duplicates = fresh_amiss(alloc, earlier, later, Disorder::Duplicates)?;
     let dangling = fresh_amiss(alloc, earlier, later, Disorder::Dangling)?;
+    let codes = codes_between(alloc, earlier, later)?;
     let withdrawn = fresh_amiss(alloc, earlier, later, Disorder::Withdrawn)?;
     Ok(News {
         entries,
@@ -198,6 +206,7 @@ fn news_between(
         conflicts,
         duplicates,
         dangling,
+        codes,
         withdrawn,
         awaited,
         gaps,

@@ -1,5 +1,6 @@
 //! News as one sentence.
 
+use crate::codes::Code;
 use crate::news::{Grown, News};
 use crs_part::Text;
 use crs_value::Key;
@@ -20,38 +21,17 @@ impl fmt::Display for News {
             entries,
             superseded,
             retired,
-            conflicts,
-            duplicates,
-            dangling,
-            withdrawn,
             awaited,
             gaps,
+            ..
         } = self;
         let mut parts = write_grown(f, 0, entries, "entry more", "entries more")?;
         parts = write_grown(f, parts, superseded, "more superseded", "more superseded")?;
         parts = write_grown(f, parts, retired, "more retired", "more retired")?;
-        parts = write_keys(f, parts, conflicts, "new conflict", "new conflicts")?;
-        parts = write_keys(
-            f,
-            parts,
-            duplicates,
-            "code has equal texts",
-            "codes have equal texts",
-        )?;
-        parts = write_keys(
-            f,
-            parts,
-            dangling,
-            "code leads to no valid entry",
-            "codes lead to no valid entry",
-        )?;
-        parts = write_keys(
-            f,
-            parts,
-            withdrawn,
-            "code has no entry any more",
-            "codes have no entry any more",
-        )?;
+        parts = write_disorder(f, parts, self)?;
+        parts = write_again(f, parts, &self.codes)?;
+        parts = write_anew(f, parts, &self.codes)?;
+        parts = write_withdrawn(f, parts, &self.withdrawn)?;
         parts = write_grown(f, parts, awaited, "awaited id more", "awaited ids more")?;
         parts = write_grown(f, parts, gaps, "gap more", "gaps more")?;
         if parts > 0 {
@@ -59,6 +39,107 @@ impl fmt::Display for News {
         }
         write_hints(f, self)
     }
+}
+
+/// Prints the same of codes alone, without how many entries there are more, and, unless asked for, without those that are superseded.
+#[derive(Clone, Copy)]
+pub struct OfCodes<'a> {
+    pub news: &'a News,
+    pub superseded: bool,
+}
+
+impl fmt::Display for OfCodes<'_> {
+    fn fmt<W: fmt::Write>(&self, f: &mut fmt::Formatter<W>) -> fmt::Result {
+        let News {
+            codes,
+            withdrawn,
+            ..
+        } = self.news;
+        let mut parts = write_disorder(f, 0, self.news)?;
+        parts = write_again(f, parts, codes)?;
+        if self.superseded {
+            parts = write_anew(f, parts, codes)?;
+        }
+        parts = write_withdrawn(f, parts, withdrawn)?;
+        if parts > 0 {
+            f.write_char('\n')?;
+        }
+        write_hints(f, self.news)
+    }
+}
+
+// Writes which codes are not in order any more.
+fn write_disorder<W: fmt::Write>(
+    f: &mut fmt::Formatter<W>,
+    parts: usize,
+    news: &News,
+) -> Result<usize, fmt::Error> {
+    let News {
+        conflicts,
+        duplicates,
+        dangling,
+        ..
+    } = news;
+    let mut parts = parts;
+    parts = write_keys(f, parts, conflicts, "new conflict", "new conflicts")?;
+    parts = write_keys(
+        f,
+        parts,
+        duplicates,
+        "code has equal texts",
+        "codes have equal texts",
+    )?;
+    write_keys(
+        f,
+        parts,
+        dangling,
+        "code leads to no valid entry",
+        "codes lead to no valid entry",
+    )
+}
+
+fn write_again<W: fmt::Write>(
+    f: &mut fmt::Formatter<W>,
+    parts: usize,
+    codes: &[Code],
+) -> Result<usize, fmt::Error> {
+    write_codes(
+        f,
+        parts,
+        codes,
+        false,
+        "code is in use again",
+        "codes are in use again",
+    )
+}
+
+fn write_anew<W: fmt::Write>(
+    f: &mut fmt::Formatter<W>,
+    parts: usize,
+    codes: &[Code],
+) -> Result<usize, fmt::Error> {
+    write_codes(
+        f,
+        parts,
+        codes,
+        true,
+        "code is superseded now, or by others",
+        "codes are superseded now, or by others",
+    )
+}
+
+fn write_withdrawn<W: fmt::Write>(
+    f: &mut fmt::Formatter<W>,
+    parts: usize,
+    keys: &[Key],
+) -> Result<usize, fmt::Error> {
+    write_keys(
+        f,
+        parts,
+        keys,
+        "code has no entry any more",
+        "codes have no entry any more",
+    )
 }
 
 // Writes the ways on.
@@ -127,12 +208,78 @@ fn write_keys<W: fmt::Write>(
         if at > 0 {
             f.write_str(", ")?;
         }
-        write_cut(f, shown(&key.authority))?;
-        f.write_char(':')?;
-        write_cut(f, shown(&key.code))?;
+        write_key(f, key)?;
     }
     f.write_str(if count > NAMED { ", ..)" } else { ")" })?;
     Ok(parts.saturating_add(1))
+}
+
+fn write_key<W: fmt::Write>(f: &mut fmt::Formatter<W>, key: &Key) -> fmt::Result {
+    write_cut(f, shown(&key.authority))?;
+    f.write_char(':')?;
+    write_cut(f, shown(&key.code))
+}
+
+// Writes how many codes are superseded, or in use again, and the first of them, if there are any.
+fn write_codes<W: fmt::Write>(
+    f: &mut fmt::Formatter<W>,
+    parts: usize,
+    codes: &[Code],
+    superseded: bool,
+    one: &str,
+    many: &str,
+) -> Result<usize, fmt::Error> {
+    let count = codes
+        .iter()
+        .filter(|code| code.superseded == superseded && code.by.is_none())
+        .count();
+    if count == 0 {
+        return Ok(parts);
+    }
+    separate(f, parts)?;
+    let words = if count == 1 { one } else { many };
+    write!(f, "{count} {words} (")?;
+    let mut named = 0;
+    let mut rest = codes;
+    while let Some((code, others)) = rest.split_first() {
+        rest = others;
+        if code.superseded != superseded {
+            continue;
+        }
+        if code.by.is_none() {
+            if named >= NAMED {
+                break;
+            }
+            if named > 0 {
+                f.write_str(", ")?;
+            }
+            named += 1;
+        }
+        write_code(f, code, others)?;
+    }
+    f.write_str(if count > NAMED { ", ..)" } else { ")" })?;
+    Ok(parts.saturating_add(1))
+}
+
+// Writes the code, and `by`, or a key by which the code before is superseded.
+fn write_code<W: fmt::Write>(
+    f: &mut fmt::Formatter<W>,
+    code: &Code,
+    others: &[Code],
+) -> fmt::Result {
+    if let Some(by) = &code.by {
+        f.write_char(' ')?;
+        return write_key(f, by);
+    }
+    write_key(f, &code.key)?;
+    if !code.superseded {
+        return Ok(());
+    }
+    f.write_str(" by")?;
+    match others.first() {
+        Some(next) if next.by.is_some() => Ok(()),
+        _ => f.write_str(" none"),
+    }
 }
 
 fn shown(text: &Text) -> &str {

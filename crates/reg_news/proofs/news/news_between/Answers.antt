@@ -5,6 +5,7 @@ use Rattle.reg_report.specs.Conflicts.{bytes_of}
 use Rattle.reg_report.specs.Seen.{row_seen}
 use Rattle.reg_disorder.specs.declared.disorder.Disorder.TheVariants.{Duplicates, Dangling, Withdrawn}
 use Rattle.reg_news.specs.News.{count_of, HaveAmiss, AreFresh}
+use Rattle.reg_news.specs.Codes.{AreTold, code_seen}
 use Rattle.reg_news.proofs.KeyLemmas.{of_rows}
 use Rattle.reg_news.proofs.news.news_between.Goals as goal
 
@@ -23,6 +24,7 @@ returns c =
       conflicts = c.in_ok-conflicts.ensures;
       duplicates = of_rows (λ rs ss. AreFresh (HaveAmiss Duplicates) rs ss (map bytes_of c.in_ok-duplicates.duplicates.items)) _ _ _ _ e l c.in_ok-duplicates.ensures;
       dangling = of_rows (λ rs ss. AreFresh (HaveAmiss Dangling) rs ss (map bytes_of c.in_ok-dangling.dangling.items)) _ _ _ _ e l c.in_ok-dangling.ensures;
+      codes = of_rows (λ rs ss. AreTold rs ss (map code_seen c.in_ok-codes.codes.items)) _ _ _ _ e l c.in_ok-codes.ensures;
       withdrawn = of_rows (λ rs ss. AreFresh (HaveAmiss Withdrawn) rs ss (map bytes_of c.in_ok-withdrawn.withdrawn.items)) _ _ _ _ e l c.in_ok-withdrawn.ensures;
       awaited_before = c.in_ok-awaited.ensures.before;
       awaited = c.in_ok-awaited.ensures.now;
