@@ -1,4 +1,4 @@
-use Rattle.std.proofs.Common.{List, map, ap, ◌∙◌, subst}
+use Rattle.std.proofs.Common.{List, length, map, ap, ◌∙◌, subst}
 use Rattle.reg_op.specs.Rows.{Row, rows}
 use Rattle.reg_report.specs.Seen.{row_seen}
 use Rattle.reg_query.specs.Figures.{AreCounts, AreCountsAmiss, CountsConflicts}
