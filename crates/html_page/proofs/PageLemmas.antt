@@ -1,17 +1,19 @@
 -- The positions of the texts of a page, and the page without its texts.
-use Rattle.std.proofs.Common.{◌≡◌, ◌==◌, ℕ, Bool, true, false, if◌then◌else◌, List, [], ◌∷◌, ◌++◌, length, map, Some, refl, sym, ap, ◌∙◌}
+use Rattle.std.proofs.Common.{◌≡◌, ◌==◌, ℕ, Bool, true, false, if◌then◌else◌, List, [], ◌∷◌, ◌++◌, length, map, Option, Some, None, refl, sym, ap, ◌∙◌}
 use Rattle.std.specs.List.{flat_map}
 use Rattle.std.proofs.lemmas.List.{length-map}
 use Rattle.html_page.specs.Pieces.{Piece, Markup, html}
 use Rattle.html_page.specs.Places.{Content, tags, past_all}
 use Rattle.html_page.proofs.PlaceLemmas.{same_tags}
 use Rattle.html_page.proofs.JoinLemmas.{Closed, is_closed, closed-append, closed-flat_map, Alike, is_alike, alike-append, alike-flat_map}
+use Rattle.html_page.specs.declared.run.RunKind.{RunKind}
+use Rattle.html_page.specs.declared.run.RunKind.TheVariants.{Plain, Differs, Folded}
 use Rattle.html_page.specs.declared.standing.Standing.{Standing}
 use Rattle.html_page.specs.declared.standing.Standing.TheVariants.{Valid, Superseded, Retired}
 use Rattle.html_page.specs.Shown.{Link, Entered, Awaited, Event, SupersededBy, RetiredBy, Box, Entry, Word, Side, Pair, Conflict, Shown}
-use Rattle.html_page.specs.Shape.{no_text, figures_shape, link_shape, event_shape, box_shape, entry_shape, word_shape, side_shape, pair_shape, conflict_shape, gap_shape, shape}
+use Rattle.html_page.specs.Shape.{no_text, figures_shape, link_shape, event_shape, box_shape, entry_shape, word_shape, side_shape, pair_shape, conflict_shape, gap_shape, link_to_text, shape}
 use Rattle.html_page.specs.declared.markup.TheConstants.{AFTER_FIGURES, PAIR, AFTER_PAIR, AFTER_SIDE, CONFLICTS_START, CONFLICTS_END, AWAITED_START, AWAITED_END, GAPS_START, GAPS_END, ENTRIES_START, MAP, SUPERSEDED_BY, AFTER_HISTORY, BY, AFTER_BY, AFTER_ENTRY, ENTRIES_END, RETIRED_START, RETIRED_END}
-use Rattle.html_page.specs.Templates.{head, figures, end, link, word, side_start, side, pair, conflict_start, conflict, section, awaited, gap, drawing, caption, map_of, entry_start, entry_text, question, entry_id, operation, event, area, kind_and_standing, by, entry, page}
+use Rattle.html_page.specs.Templates.{head, figures, end, link, word, side_start, side, pair, conflict_start, conflict, section, awaited, gap, drawing, caption, map_of, entry_start, entry_text, same_text, text_or_link, question, entry_id, operation, event, area, kind_and_standing, by, conflict_link, entry, page}
 
 -- ---- places
 
@@ -19,12 +21,13 @@ link_closed : (named : List ℕ → List ℕ) (l : Link) → Closed (link named 
 link_closed named (Entered id authority code) = record { is = refl }
 link_closed named (Awaited id) = record { is = refl }
 
-word_closed_at : (b : Bool) (text : List ℕ) → Closed (word (record { differs = b; text = text }))
-word_closed_at true text = record { is = refl }
-word_closed_at false text = record { is = refl }
+word_closed_at : (kind : RunKind) (text : List ℕ) → Closed (word (record { kind = kind; text = text }))
+word_closed_at Plain text = record { is = refl }
+word_closed_at Differs text = record { is = refl }
+word_closed_at Folded text = record { is = refl }
 
 word_closed : (w : Word) → Closed (word w)
-word_closed w = word_closed_at w.differs w.text
+word_closed w = word_closed_at w.kind w.text
 
 side_closed : (named : List ℕ → List ℕ) (s : Side) → Closed (side named s)
 side_closed named s =
@@ -67,14 +70,22 @@ map_closed b =
     closed-append (closed-append (is_closed (Markup MAP.now ∷ []) refl) (drawing_closed b.south b.west b.north b.east b.crosses))
     (is_closed (caption b.south b.west b.north b.east) refl)
 
+text_closed : (named : List ℕ → List ℕ) (o : Option (List ℕ)) (e : Entry) → Closed (text_or_link named o e.boxes e.text e.questions)
+text_closed named None e =
+    closed-append (closed-append (closed-flat_map map_of map_closed e.boxes) (is_closed (entry_text e.text) refl)) (closed-flat_map question (λ text. record { is = refl }) e.questions)
+text_closed named (Some id) e = is_closed (same_text id (named id)) refl
+
+conflict_link_closed : (authority code : List ℕ) (b : Bool) → Closed (conflict_link authority code b)
+conflict_link_closed authority code true = record { is = refl }
+conflict_link_closed authority code false = record { is = refl }
+
 entry_closed : (named : List ℕ → List ℕ) (e : Entry) → Closed (entry named e)
 entry_closed named e =
-    closed-append (closed-append (closed-append (closed-append (closed-append (closed-append (closed-append (closed-append (closed-append (closed-append
-    (is_closed (entry_start e.id e.authority e.code e.name) refl) (closed-flat_map map_of map_closed e.boxes)) (is_closed (entry_text e.text) refl))
-    (closed-flat_map question (λ text. record { is = refl }) e.questions)) (is_closed (entry_id (named e.id) e.note) refl))
+    closed-append (closed-append (closed-append (closed-append (closed-append (closed-append (closed-append (closed-append (closed-append
+    (is_closed (entry_start e.id e.authority e.code e.name) refl) (text_closed named e.same_text_as e)) (is_closed (entry_id (named e.id) e.note) refl))
     (closed-flat_map (event named) (event_closed named) e.events)) (is_closed (Markup AFTER_HISTORY.now ∷ []) refl))
     (closed-flat_map area (λ text. record { is = refl }) e.areas)) (standing_closed e.kind e.standing))
-    (closed-flat_map (by named) (by_closed named) e.links)) (is_closed (Markup AFTER_ENTRY.now ∷ []) refl)
+    (closed-flat_map (by named) (by_closed named) e.links)) (conflict_link_closed e.authority e.code e.in_conflict)) (is_closed (Markup AFTER_ENTRY.now ∷ []) refl)
 
 page_closed : (named : List ℕ → List ℕ) (s : Shown) → Closed (page named s)
 page_closed named s =
@@ -99,12 +110,13 @@ link_alike : (named other : List ℕ → List ℕ) (l : Link) → Alike (link na
 link_alike named other (Entered id authority code) = record { is = refl }
 link_alike named other (Awaited id) = record { is = refl }
 
-word_alike_at : (b : Bool) (text : List ℕ) → Alike (word (record { differs = b; text = text })) (word (record { differs = b; text = [] }))
-word_alike_at true text = record { is = refl }
-word_alike_at false text = record { is = refl }
+word_alike_at : (kind : RunKind) (text : List ℕ) → Alike (word (record { kind = kind; text = text })) (word (record { kind = kind; text = [] }))
+word_alike_at Plain text = record { is = refl }
+word_alike_at Differs text = record { is = refl }
+word_alike_at Folded text = record { is = refl }
 
 word_alike : (w : Word) → Alike (word w) (word (word_shape w))
-word_alike w = word_alike_at w.differs w.text
+word_alike w = word_alike_at w.kind w.text
 
 side_alike : (named other : List ℕ → List ℕ) (s : Side) → Alike (side named s) (side other (side_shape s))
 side_alike named other s =
@@ -151,14 +163,22 @@ map_alike b =
     alike-append (alike-append (is_alike (Markup MAP.now ∷ []) (Markup MAP.now ∷ []) refl) (drawing_alike b.south b.west b.north b.east b.crosses))
     (is_alike (caption b.south b.west b.north b.east) (caption [] [] [] []) refl)
 
+text_alike : (named other : List ℕ → List ℕ) (o : Option (List ℕ)) (e : Entry) → Alike (text_or_link named o e.boxes e.text e.questions) (text_or_link other (link_to_text o) (map box_shape e.boxes) [] (map no_text e.questions))
+text_alike named other None e =
+    alike-append (alike-append (alike-flat_map map_of box_shape map_alike e.boxes) (is_alike (entry_text e.text) (entry_text []) refl)) (alike-flat_map question no_text (λ text. record { is = refl }) e.questions)
+text_alike named other (Some id) e = is_alike (same_text id (named id)) (same_text [] (other [])) refl
+
+conflict_link_alike : (authority code : List ℕ) (b : Bool) → Alike (conflict_link authority code b) (conflict_link [] [] b)
+conflict_link_alike authority code true = record { is = refl }
+conflict_link_alike authority code false = record { is = refl }
+
 entry_alike : (named other : List ℕ → List ℕ) (e : Entry) → Alike (entry named e) (entry other (entry_shape e))
 entry_alike named other e =
-    alike-append (alike-append (alike-append (alike-append (alike-append (alike-append (alike-append (alike-append (alike-append (alike-append
-    (is_alike (entry_start e.id e.authority e.code e.name) (entry_start [] [] [] []) refl) (alike-flat_map map_of box_shape map_alike e.boxes)) (is_alike (entry_text e.text) (entry_text []) refl))
-    (alike-flat_map question no_text (λ text. record { is = refl }) e.questions)) (is_alike (entry_id (named e.id) e.note) (entry_id (other []) []) refl))
+    alike-append (alike-append (alike-append (alike-append (alike-append (alike-append (alike-append (alike-append (alike-append
+    (is_alike (entry_start e.id e.authority e.code e.name) (entry_start [] [] [] []) refl) (text_alike named other e.same_text_as e)) (is_alike (entry_id (named e.id) e.note) (entry_id (other []) []) refl))
     (each_alike (event named) (event other) event_shape (event_alike named other) e.events)) (is_alike (Markup AFTER_HISTORY.now ∷ []) (Markup AFTER_HISTORY.now ∷ []) refl))
     (alike-flat_map area no_text (λ text. record { is = refl }) e.areas)) (is_alike (kind_and_standing e.kind e.standing) (kind_and_standing [] e.standing) refl))
-    (each_alike (by named) (by other) link_shape (by_alike named other) e.links)) (is_alike (Markup AFTER_ENTRY.now ∷ []) (Markup AFTER_ENTRY.now ∷ []) refl)
+    (each_alike (by named) (by other) link_shape (by_alike named other) e.links)) (conflict_link_alike e.authority e.code e.in_conflict)) (is_alike (Markup AFTER_ENTRY.now ∷ []) (Markup AFTER_ENTRY.now ∷ []) refl)
 
 page_alike : (named other : List ℕ → List ℕ) (s : Shown) → Alike (page named s) (page other (shape s))
 page_alike named other s =

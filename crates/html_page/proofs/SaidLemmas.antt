@@ -1,8 +1,10 @@
 -- What is read of a page, part by part.
-use Rattle.std.proofs.Common.{◌≡◌, ◌==◌, ℕ, Bool, true, false, if◌then◌else◌, List, [], ◌∷◌, ◌++◌, codes, length, refl, sym, ap, ◌∙◌, append-nil}
+use Rattle.std.proofs.Common.{◌≡◌, ◌==◌, ℕ, Bool, true, false, if◌then◌else◌, List, [], ◌∷◌, ◌++◌, codes, length, Option, Some, None, refl, sym, ap, ◌∙◌, append-nil}
 use Rattle.std.specs.List.{flat_map}
 use Rattle.html_page.specs.Pieces.{Piece, Markup, html}
 use Rattle.html_page.specs.Shown.{Link, Entered, Awaited, Event, SupersededBy, RetiredBy, Box, Entry, Word, Side, Pair, Conflict, Gap, Shown}
+use Rattle.html_page.specs.declared.run.RunKind.{RunKind}
+use Rattle.html_page.specs.declared.run.RunKind.TheVariants.{Plain, Differs, Folded}
 use Rattle.html_page.specs.declared.standing.Standing.{Standing}
 use Rattle.html_page.specs.declared.standing.Standing.TheVariants.{Valid, Superseded, Retired}
 use Rattle.html_page.specs.declared.head.PageFigures.{PageFigures}
@@ -22,17 +24,18 @@ link_says : (named : List ℕ → List ℕ) (l : Link) → Says (made.link named
 link_says named (Entered id authority code) = is_said (made.link_entered id authority code) (says.cut authority ∷ codes ":" ∷ says.cut code ∷ []) refl
 link_says named (Awaited id) = is_said (made.link_awaited (named id)) (line (named id) ∷ []) refl
 
-word_says_at : (b : Bool) (text : List ℕ) → Says (made.word (record { differs = b; text = text })) (lines text ∷ [])
-word_says_at true text = is_said (made.word (record { differs = true; text = text })) (lines text ∷ []) refl
-word_says_at false text = is_said (made.word (record { differs = false; text = text })) (lines text ∷ []) refl
+word_says_at : (kind : RunKind) (text : List ℕ) → Says (made.word_as kind text) (says.word_as kind text)
+word_says_at Plain text = is_said (made.word_as Plain text) (says.word_as Plain text) refl
+word_says_at Differs text = is_said (made.word_as Differs text) (says.word_as Differs text) refl
+word_says_at Folded text = is_said (made.word_as Folded text) (says.word_as Folded text) refl
 
-word_says : (w : Word) → Says (made.word w) (lines w.text ∷ [])
-word_says w = word_says_at w.differs w.text
+word_says : (w : Word) → Says (made.word w) (says.word w)
+word_says w = word_says_at w.kind w.text
 
 side_says : (named : List ℕ → List ℕ) (s : Side) → Says (made.side named s) (says.side named s)
 side_says named s =
     says-nothing
-    (says-append (is_said (made.side_start s.id (named s.id) s.note) (line (named s.id) ∷ says.blank ∷ line s.note ∷ []) refl) (says-one made.word (λ (w : Word). lines w.text) word_says s.words))
+    (says-append (is_said (made.side_start s.id (named s.id) s.note) (line (named s.id) ∷ says.blank ∷ line s.note ∷ []) refl) (says-each made.word says.word word_says s.words))
     (is_said (Markup AFTER_SIDE.now ∷ []) [] refl)
 
 pair_says : (named : List ℕ → List ℕ) (p : Pair) → Says (made.pair named p) (says.pair named p)
@@ -85,14 +88,21 @@ id_says read note = is_said (made.entry_id read note) (says.entered read note) r
 area_says : (text : List ℕ) → Says (made.area text) (line text ∷ [])
 area_says text = is_said (made.area text) (line text ∷ []) refl
 
+content_says : (named : List ℕ → List ℕ) (o : Option (List ℕ)) (e : Entry) → Says (made.text_or_link named o e.boxes e.text e.questions) (says.text_or_link named o e)
+content_says named None e = says-append (says-append (says-each made.map_of says.map_of map_says e.boxes) (text_says e.text)) (says-one made.question lines question_says e.questions)
+content_says named (Some id) e = is_said (made.same_text id (named id)) (codes "The same text as " ∷ line (named id) ∷ []) refl
+
+conflict_link_says : (authority code : List ℕ) (b : Bool) → Says (made.conflict_link authority code b) (says.conflict_word b)
+conflict_link_says authority code true = is_said (made.conflict_link authority code true) (codes "in conflict" ∷ []) refl
+conflict_link_says authority code false = is_said [] [] refl
+
 entry_says : (named : List ℕ → List ℕ) (e : Entry) → Says (made.entry named e) (says.entry named e)
 entry_says named e =
-    says-nothing (says-append (says-append (says-append (says-nothing (says-append (says-append (says-append (says-append (says-append
-    (start_says e.id e.authority e.code e.name) (says-each made.map_of says.map_of map_says e.boxes)) (text_says e.text))
-    (says-one made.question lines question_says e.questions)) (id_says (named e.id) e.note))
+    says-nothing (says-append (says-append (says-append (says-append (says-nothing (says-append (says-append (says-append
+    (start_says e.id e.authority e.code e.name) (content_says named e.same_text_as e)) (id_says (named e.id) e.note))
     (says-each (made.event named) (says.event named) (event_says named) e.events)) (is_said (Markup AFTER_HISTORY.now ∷ []) [] refl))
     (says-one made.area line area_says e.areas)) (standing_says e.kind e.standing))
-    (says-each (made.by named) (says.by named) (by_says named) e.links)) (is_said (Markup AFTER_ENTRY.now ∷ []) [] refl)
+    (says-each (made.by named) (says.by named) (by_says named) e.links)) (conflict_link_says e.authority e.code e.in_conflict)) (is_said (Markup AFTER_ENTRY.now ∷ []) [] refl)
 
 head_says : (title : List ℕ) → Says (made.head title) (says.head title)
 head_says title = is_said (made.head title) (says.head title) refl

@@ -1,14 +1,16 @@
 -- The texts of a page, part by part.
-use Rattle.std.proofs.Common.{◌≡◌, ◌==◌, ℕ, Bool, true, false, if◌then◌else◌, List, [], ◌∷◌, ◌++◌, length, map, refl, sym, ap₂, ◌∙◌, append-nil}
+use Rattle.std.proofs.Common.{◌≡◌, ◌==◌, ℕ, Bool, true, false, if◌then◌else◌, List, [], ◌∷◌, ◌++◌, length, map, Option, Some, None, refl, sym, ap₂, ◌∙◌, append-nil}
 use Rattle.std.specs.List.{flat_map}
 use Rattle.std.proofs.lemmas.Bool.{eqb-true}
 use Rattle.std.proofs.lemmas.Grind.{flat_map-append}
 use Rattle.std.proofs.lemmas.List.{nil_from_length}
 use Rattle.html_page.specs.Pieces.{Piece, Markup}
 use Rattle.html_page.specs.Shown.{Link, Entered, Awaited, Event, SupersededBy, RetiredBy, Box, Entry, Word, Side, Pair, Conflict, Shown}
+use Rattle.html_page.specs.declared.run.RunKind.{RunKind}
+use Rattle.html_page.specs.declared.run.RunKind.TheVariants.{Plain, Differs, Folded}
 use Rattle.html_page.specs.declared.markup.TheConstants.{AFTER_FIGURES, PAIR, AFTER_PAIR, AFTER_SIDE, CONFLICTS_START, CONFLICTS_END, AWAITED_START, AWAITED_END, GAPS_START, GAPS_END, ENTRIES_START, MAP, SUPERSEDED_BY, AFTER_HISTORY, BY, AFTER_BY, AFTER_ENTRY, ENTRIES_END, RETIRED_START, RETIRED_END}
-use Rattle.html_page.specs.Templates.{head, figures, end, link, word, side_start, side, pair, conflict_start, conflict, section, awaited, gap, drawing, caption, map_of, entry_start, entry_text, question, entry_id, operation, event, area, kind_and_standing, by, entry, page}
-use Rattle.html_page.specs.Texts.{text_in, texts, side_texts, pair_texts, conflict_texts, row_texts, shown_texts}
+use Rattle.html_page.specs.Templates.{head, figures, end, link, word, side_start, side, pair, conflict_start, conflict, section, awaited, gap, drawing, caption, map_of, entry_start, entry_text, same_text, text_or_link, question, entry_id, operation, event, area, kind_and_standing, by, conflict_link, entry, page}
+use Rattle.html_page.specs.Texts.{text_in, texts, side_texts, pair_texts, conflict_texts, texts_unless, row_texts, shown_texts}
 
 -- the pieces have these texts
 record Has (ps : List Piece) (ts : List (List ℕ)) : Type 0 where
@@ -55,13 +57,14 @@ link_has : (named : List ℕ → List ℕ) (l : Link) → Has (link named l) []
 link_has named (Entered id authority code) = record { is = refl }
 link_has named (Awaited id) = record { is = refl }
 
-word_at : (b : Bool) (text : List ℕ) → Has (word (record { differs = b; text = text })) (text ∷ [])
-word_at true text = record { is = refl }
-word_at false text = record { is = refl }
+word_at : (kind : RunKind) (text : List ℕ) → Has (word (record { kind = kind; text = text })) (text ∷ [])
+word_at Plain text = record { is = refl }
+word_at Differs text = record { is = refl }
+word_at Folded text = record { is = refl }
 
 side_has : (named : List ℕ → List ℕ) (s : Side) → Has (side named s) (side_texts s)
 side_has named s =
-    ended (both (has (side_start s.id (named s.id) s.note) [] refl) (each_one word (λ (w : Word). w.text) (λ w. word_at w.differs w.text) s.words)) (has (Markup AFTER_SIDE.now ∷ []) [] refl)
+    ended (both (has (side_start s.id (named s.id) s.note) [] refl) (each_one word (λ (w : Word). w.text) (λ w. word_at w.kind w.text) s.words)) (has (Markup AFTER_SIDE.now ∷ []) [] refl)
 
 pair_has : (named : List ℕ → List ℕ) (p : Pair) → Has (pair named p) (pair_texts p)
 pair_has named p = ended (both (both (has (Markup PAIR.now ∷ []) [] refl) (side_has named p.first)) (side_has named p.second)) (has (Markup AFTER_PAIR.now ∷ []) [] refl)
@@ -88,14 +91,20 @@ questions_are : (qs : List (List ℕ)) → Has (flat_map question qs) qs
 questions_are [] = record { is = refl }
 questions_are (q ∷ qs) = both (has (question q) (q ∷ []) refl) (questions_are qs)
 
+content_has : (named : List ℕ → List ℕ) (o : Option (List ℕ)) (e : Entry) → Has (text_or_link named o e.boxes e.text e.questions) (texts_unless o e)
+content_has named None e = both (both (each_none map_of map_has e.boxes) (has (entry_text e.text) (e.text ∷ []) refl)) (questions_are e.questions)
+content_has named (Some id) e = has (same_text id (named id)) [] refl
+
+conflict_link_has : (authority code : List ℕ) (b : Bool) → Has (conflict_link authority code b) []
+conflict_link_has authority code true = record { is = refl }
+conflict_link_has authority code false = record { is = refl }
+
 entry_has : (named : List ℕ → List ℕ) (e : Entry) → Has (entry named e) (row_texts e)
 entry_has named e =
-    ended (ended (ended (ended (ended (ended (ended (both
-    (both (both (has (entry_start e.id e.authority e.code e.name) [] refl) (each_none map_of map_has e.boxes)) (has (entry_text e.text) (e.text ∷ []) refl))
-    (questions_are e.questions)) (has (entry_id (named e.id) e.note) [] refl))
+    ended (ended (ended (ended (ended (ended (ended (ended (both (has (entry_start e.id e.authority e.code e.name) [] refl) (content_has named e.same_text_as e)) (has (entry_id (named e.id) e.note) [] refl))
     (each_none (event named) (event_has named) e.events)) (has (Markup AFTER_HISTORY.now ∷ []) [] refl))
     (each_none area (λ text. record { is = refl }) e.areas)) (has (kind_and_standing e.kind e.standing) [] refl))
-    (each_none (by named) (by_has named) e.links)) (has (Markup AFTER_ENTRY.now ∷ []) [] refl)
+    (each_none (by named) (by_has named) e.links)) (conflict_link_has e.authority e.code e.in_conflict)) (has (Markup AFTER_ENTRY.now ∷ []) [] refl)
 
 page_has : (named : List ℕ → List ℕ) (s : Shown) → Has (page named s) (shown_texts s)
 page_has named s =

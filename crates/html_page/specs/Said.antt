@@ -1,10 +1,12 @@
 -- What a page says: its words in their order. Line feeds in texts are left out.
-use Rattle.std.specs.Prelude.{ℕ, ◌==◌, List, [], ◌∷◌, ◌++◌, codes, length, map, decimal, if◌then◌else◌}
+use Rattle.std.specs.Prelude.{ℕ, ◌==◌, List, [], ◌∷◌, ◌++◌, codes, length, map, decimal, Bool, true, false, Option, Some, None, if◌then◌else◌}
 use Rattle.std.specs.List.{flat_map}
 use Rattle.text_hidden.specs.Short.{shortened, ellipsis_of}
 use Rattle.html_page.specs.declared.marks.Feeds.TheVariants.{Marked, Kept}
 use Rattle.html_page.specs.declared.standing.Standing.{Standing}
 use Rattle.html_page.specs.declared.standing.Standing.TheVariants.{Valid, Superseded, Retired}
+use Rattle.html_page.specs.declared.run.RunKind.{RunKind}
+use Rattle.html_page.specs.declared.run.RunKind.TheVariants.{Plain, Differs, Folded}
 use Rattle.html_page.specs.declared.head.PageFigures.{PageFigures}
 use Rattle.html_page.specs.Marks.{marked}
 use Rattle.html_page.specs.Read.{without_feeds}
@@ -43,14 +45,23 @@ section heading item xs = if length xs == 0 then [] else heading ++ flat_map ite
 -- ---- conflicts, and what is missing
 
 abbrev pub conflicts_heading : List (List ℕ)
-conflicts_heading = codes "Conflicts" ∷ codes "Each of these codes has several definitions that are not retired. What differs is marked." ∷ []
+conflicts_heading = codes "Conflicts" ∷ codes "Each of these codes has several definitions that are not retired. What differs is marked; lines that are the same are folded, except for three around it." ∷ []
 
 -- between an id and its note
 abbrev pub blank : List ℕ
 blank = codes " "
 
+-- what is folded has a heading
+abbrev pub word_as : RunKind → List ℕ → List (List ℕ)
+word_as Plain text = lines text ∷ []
+word_as Differs text = lines text ∷ []
+word_as Folded text = codes "Lines that are the same" ∷ lines text ∷ []
+
+abbrev pub word : Word → List (List ℕ)
+word w = word_as w.kind w.text
+
 abbrev pub side : (List ℕ → List ℕ) → Side → List (List ℕ)
-side named s = line (named s.id) ∷ blank ∷ line s.note ∷ map (λ (w : Word). lines w.text) s.words
+side named s = (line (named s.id) ∷ blank ∷ line s.note ∷ []) ++ flat_map word s.words
 
 abbrev pub pair : (List ℕ → List ℕ) → Pair → List (List ℕ)
 pair named p = side named p.first ++ side named p.second
@@ -114,11 +125,20 @@ status Retired = codes "retired"
 abbrev pub by : (List ℕ → List ℕ) → Link → List (List ℕ)
 by named newer = (codes "by " ∷ []) ++ link named newer
 
+-- the text with its boxes and questions, or the id of the entry whose row has them
+abbrev pub text_or_link : (List ℕ → List ℕ) → Option (List ℕ) → Entry → List (List ℕ)
+text_or_link named None e = flat_map map_of e.boxes ++ (lines e.text ∷ []) ++ map lines e.questions
+text_or_link named (Some id) e = codes "The same text as " ∷ line (named id) ∷ []
+
+abbrev pub conflict_word : Bool → List (List ℕ)
+conflict_word true = codes "in conflict" ∷ []
+conflict_word false = []
+
 abbrev pub entry : (List ℕ → List ℕ) → Entry → List (List ℕ)
 entry named e =
-    key e.authority e.code ++ (line e.name ∷ []) ++ flat_map map_of e.boxes ++ (lines e.text ∷ []) ++ map lines e.questions
+    key e.authority e.code ++ (line e.name ∷ []) ++ text_or_link named e.same_text_as e
     ++ entered (named e.id) e.note ++ flat_map (event named) e.events
-    ++ map line e.areas ++ (line e.kind ∷ status e.standing ∷ []) ++ flat_map (by named) e.links
+    ++ map line e.areas ++ (line e.kind ∷ status e.standing ∷ []) ++ flat_map (by named) e.links ++ conflict_word e.in_conflict
 
 abbrev pub retired_heading : List (List ℕ)
 retired_heading = codes "Retired entries" ∷ codes "Offices withdrew these entries. Do not use them for new data." ∷ codes "Show the retired entries" ∷ columns

@@ -1,5 +1,5 @@
 -- The shape of a page: its contents without the texts.
-use Rattle.std.specs.Prelude.{ℕ, List, [], map}
+use Rattle.std.specs.Prelude.{ℕ, List, [], map, Option, Some, None}
 use Rattle.html_page.specs.declared.head.PageFigures.{PageFigures}
 use Rattle.html_page.specs.Shown.{Link, Entered, Awaited, Event, SupersededBy, RetiredBy, Box, Entry, Word, Side, Pair, Conflict, Gap, Shown}
 
@@ -21,7 +21,12 @@ event_shape (RetiredBy id note) = RetiredBy [] []
 abbrev pub box_shape : Box → Box
 box_shape b = record { south = []; west = []; north = []; east = []; crosses = b.crosses }
 
--- of an entry: the numbers of its boxes, areas, links, questions and operations, and its status
+-- whether the text is in another row
+abbrev pub link_to_text : Option (List ℕ) → Option (List ℕ)
+link_to_text None = None
+link_to_text (Some id) = Some []
+
+-- of an entry: the numbers of its boxes, areas, links, questions and operations, its status, and whether its text is in another row
 abbrev pub entry_shape : Entry → Entry
 entry_shape e = record {
   id = [];
@@ -37,11 +42,13 @@ entry_shape e = record {
   questions = map no_text e.questions;
   note = [];
   events = map event_shape e.events;
+  same_text_as = link_to_text e.same_text_as;
+  in_conflict = e.in_conflict;
 }
 
--- of a word: whether it is marked
+-- of a word: whether it is marked or folded
 abbrev pub word_shape : Word → Word
-word_shape w = record { differs = w.differs; text = [] }
+word_shape w = record { kind = w.kind; text = [] }
 
 abbrev pub side_shape : Side → Side
 side_shape s = record { id = []; note = []; words = map word_shape s.words }

@@ -1,7 +1,8 @@
 -- The contents of the page of a register. Ids, keys, names, areas and notes are texts.
-use Rattle.std.specs.Prelude.{ℕ, Bool, List}
+use Rattle.std.specs.Prelude.{ℕ, Bool, List, Option}
 use Rattle.html_page.specs.declared.head.PageFigures.{PageFigures}
 use Rattle.html_page.specs.declared.standing.Standing.{Standing}
+use Rattle.html_page.specs.declared.run.RunKind.{RunKind}
 
 -- an entry that another one names, with its key; or the id of one that was not entered
 pub data Link : Type 0 where
@@ -21,7 +22,8 @@ pub record Box : Type 0 where
   pub east : List ℕ
   pub crosses : Bool
 
--- an entry, with its text, what an expert would ask about it, and its history
+-- an entry, with its text, what an expert would ask about it, its history, and whether it is in conflict. The row of another entry may
+-- have the same text: then this row links to that one by its id, in the place of the boxes, the text and the questions
 pub record Entry : Type 0 where
   pub id : List ℕ
   pub authority : List ℕ
@@ -36,10 +38,12 @@ pub record Entry : Type 0 where
   pub questions : List (List ℕ)
   pub note : List ℕ
   pub events : List Event
+  pub same_text_as : Option (List ℕ)
+  pub in_conflict : Bool
 
--- a run of words of a text, and whether it differs from the other side
+-- a run of words of a text
 pub record Word : Type 0 where
-  pub differs : Bool
+  pub kind : RunKind
   pub text : List ℕ
 
 -- an entry of a key in conflict, with its note and its text in words

@@ -1,12 +1,14 @@
 -- The page: its contents as a list of pieces. `named` gives what is read in the place of an id or a UUID; links keep it.
-use Rattle.std.specs.Prelude.{ℕ, Bool, ◌==◌, List, [], ◌∷◌, ◌++◌, length, decimal, if◌then◌else◌}
+use Rattle.std.specs.Prelude.{ℕ, Bool, true, false, ◌==◌, List, [], ◌∷◌, ◌++◌, length, decimal, Option, Some, None, if◌then◌else◌}
 use Rattle.std.specs.List.{flat_map}
 use Rattle.html_page.specs.Pieces.{Piece, Markup, Text, Lines, Short, Attribute, Numeral}
-use Rattle.html_page.specs.declared.markup.TheConstants.{BEFORE_TITLE, BEFORE_STYLE, BEFORE_HEADING, BEFORE_FIGURES, COUNT, ENTRIES, OPERATIONS, VALID, SUPERSEDED, RETIRED, IN_CONFLICT, AWAITED, GAPS, AFTER_FIGURES, CONFLICTS_START, CONFLICT, COLON, AFTER_CONFLICT_KEY, PAIR, SIDE, BEFORE_SIDE_ID, BEFORE_SIDE_NOTE, BEFORE_SIDE_WORDS, AFTER_SIDE, AFTER_PAIR, CONFLICTS_END, WORD, AFTER_WORD, AWAITED_START, AWAITED_ITEM, AFTER_AWAITED_ITEM, AWAITED_END, GAPS_START, GAP, BEFORE_LOW, AFTER_LOW, BEFORE_HIGH, AFTER_GAP, GAPS_END, ENTRIES_START, MAP, BOX, COMMA, ACROSS, UP, AFTER_BOX, TO_EAST_END, FROM_WEST_END, AFTER_WEST_END, BEFORE_SOUTH, BEFORE_NORTH, BEFORE_WEST, BEFORE_EAST, AFTER_MAP, ENTRY, BEFORE_ENTRY_LINK, BEFORE_ENTRY_KEY, BEFORE_NAME, AFTER_NAME, BEFORE_TEXT, AFTER_TEXT, QUESTION, AFTER_QUESTION, BEFORE_ENTRY_ID, BEFORE_ENTRY_NOTE, AFTER_ENTRY_NOTE, SUPERSEDED_BY, RETIRED_BY, BEFORE_OPERATION, BEFORE_NOTE, AFTER_NOTE, AFTER_HISTORY, AREA, AFTER_AREA, BEFORE_KIND, BEFORE_STANDING, VALID_CELL, SUPERSEDED_CELL, RETIRED_CELL, BY, AFTER_BY, AFTER_ENTRY, LINK, BEFORE_LINK_KEY, AFTER_LINK, MISSING, AFTER_MISSING, ENTRIES_END, RETIRED_START, RETIRED_END, MAIN_END, PAGE_END}
+use Rattle.html_page.specs.declared.markup.TheConstants.{BEFORE_TITLE, BEFORE_STYLE, BEFORE_HEADING, BEFORE_FIGURES, COUNT, ENTRIES, OPERATIONS, VALID, SUPERSEDED, RETIRED, IN_CONFLICT, AWAITED, GAPS, AFTER_FIGURES, CONFLICTS_START, CONFLICT, BEFORE_CONFLICT_KEY, COLON, AFTER_CONFLICT_KEY, PAIR, SIDE, BEFORE_SIDE_ID, BEFORE_SIDE_NOTE, BEFORE_SIDE_WORDS, AFTER_SIDE, AFTER_PAIR, CONFLICTS_END, WORD, AFTER_WORD, FOLD, AFTER_FOLD, AWAITED_START, AWAITED_ITEM, AFTER_AWAITED_ITEM, AWAITED_END, GAPS_START, GAP, BEFORE_LOW, AFTER_LOW, BEFORE_HIGH, AFTER_GAP, GAPS_END, ENTRIES_START, MAP, BOX, COMMA, ACROSS, UP, AFTER_BOX, TO_EAST_END, FROM_WEST_END, AFTER_WEST_END, BEFORE_SOUTH, BEFORE_NORTH, BEFORE_WEST, BEFORE_EAST, AFTER_MAP, ENTRY, BEFORE_ENTRY_LINK, BEFORE_ENTRY_KEY, BEFORE_NAME, AFTER_NAME, BEFORE_TEXT, AFTER_TEXT, SAME_TEXT, BEFORE_SAME_ID, AFTER_SAME_TEXT, QUESTION, AFTER_QUESTION, BEFORE_ENTRY_ID, BEFORE_ENTRY_NOTE, AFTER_ENTRY_NOTE, SUPERSEDED_BY, RETIRED_BY, BEFORE_OPERATION, BEFORE_NOTE, AFTER_NOTE, AFTER_HISTORY, AREA, AFTER_AREA, BEFORE_KIND, BEFORE_STANDING, VALID_CELL, SUPERSEDED_CELL, RETIRED_CELL, BY, AFTER_BY, BEFORE_CONFLICT_LINK, AFTER_CONFLICT_LINK, AFTER_ENTRY, LINK, BEFORE_LINK_KEY, AFTER_LINK, MISSING, AFTER_MISSING, ENTRIES_END, RETIRED_START, RETIRED_END, MAIN_END, PAGE_END}
 use Rattle.html_page.specs.declared.style.TheConstants.{STYLE}
 use Rattle.html_page.specs.declared.script.TheConstants.{SCRIPT}
 use Rattle.html_page.specs.declared.standing.Standing.{Standing}
 use Rattle.html_page.specs.declared.standing.Standing.TheVariants as standing
+use Rattle.html_page.specs.declared.run.RunKind.{RunKind}
+use Rattle.html_page.specs.declared.run.RunKind.TheVariants as run
 use Rattle.html_page.specs.declared.head.PageFigures.{PageFigures}
 use Rattle.html_page.specs.Shown.{Link, Entered, Awaited, Event, SupersededBy, RetiredBy, Box, Entry, Word, Side, Pair, Conflict, Gap, Shown}
 
@@ -45,8 +47,13 @@ link named (Awaited id) = link_awaited (named id)
 
 -- ---- conflicts
 
+abbrev pub word_as : RunKind → List ℕ → List Piece
+word_as run.Plain text = Lines text ∷ []
+word_as run.Differs text = Markup WORD.now ∷ Lines text ∷ Markup AFTER_WORD.now ∷ []
+word_as run.Folded text = Markup FOLD.now ∷ Lines text ∷ Markup AFTER_FOLD.now ∷ []
+
 abbrev pub word : Word → List Piece
-word w = if w.differs then Markup WORD.now ∷ Lines w.text ∷ Markup AFTER_WORD.now ∷ [] else Lines w.text ∷ []
+word w = word_as w.kind w.text
 
 abbrev pub side_start : List ℕ → List ℕ → List ℕ → List Piece
 side_start id read note =
@@ -61,7 +68,7 @@ pair named p = (Markup PAIR.now ∷ []) ++ side named p.first ++ side named p.se
 
 abbrev pub conflict_start : List ℕ → List ℕ → List Piece
 conflict_start authority code =
-    Markup CONFLICT.now ∷ Text authority ∷ Markup COLON.now ∷ Text code ∷ Markup AFTER_CONFLICT_KEY.now ∷ []
+    Markup CONFLICT.now ∷ Attribute authority ∷ Markup COLON.now ∷ Attribute code ∷ Markup BEFORE_CONFLICT_KEY.now ∷ Text authority ∷ Markup COLON.now ∷ Text code ∷ Markup AFTER_CONFLICT_KEY.now ∷ []
 
 abbrev pub conflict : (List ℕ → List ℕ) → Conflict → List Piece
 conflict named c = conflict_start c.authority c.code ++ flat_map (pair named) c.pairs
@@ -123,9 +130,18 @@ entry_start id authority code name =
 abbrev pub entry_text : List ℕ → List Piece
 entry_text text = Markup BEFORE_TEXT.now ∷ Lines text ∷ Markup AFTER_TEXT.now ∷ []
 
+-- the id of the entry whose row has the text, as a link to it
+abbrev pub same_text : List ℕ → List ℕ → List Piece
+same_text id read = Markup SAME_TEXT.now ∷ Attribute id ∷ Markup BEFORE_SAME_ID.now ∷ Text read ∷ Markup AFTER_SAME_TEXT.now ∷ []
+
 -- what an expert would ask about it
 abbrev pub question : List ℕ → List Piece
 question text = Markup QUESTION.now ∷ Lines text ∷ Markup AFTER_QUESTION.now ∷ []
+
+-- the boxes, the text and the questions of an entry, or a link to the row that has them
+abbrev pub text_or_link : (List ℕ → List ℕ) → Option (List ℕ) → List Box → List ℕ → List (List ℕ) → List Piece
+text_or_link named None boxes text questions = flat_map map_of boxes ++ entry_text text ++ flat_map question questions
+text_or_link named (Some id) boxes text questions = same_text id (named id)
 
 abbrev pub entry_id : List ℕ → List ℕ → List Piece
 entry_id read note = Markup BEFORE_ENTRY_ID.now ∷ Text read ∷ Markup BEFORE_ENTRY_NOTE.now ∷ Text note ∷ Markup AFTER_ENTRY_NOTE.now ∷ []
@@ -158,10 +174,16 @@ kind_and_standing kind s = Markup BEFORE_KIND.now ∷ Text kind ∷ Markup BEFOR
 abbrev pub by : (List ℕ → List ℕ) → Link → List Piece
 by named newer = (Markup BY.now ∷ []) ++ link named newer ++ Markup AFTER_BY.now ∷ []
 
+-- a link to the definitions of the key, side by side, if they are in conflict
+abbrev pub conflict_link : List ℕ → List ℕ → Bool → List Piece
+conflict_link authority code true = Markup BEFORE_CONFLICT_LINK.now ∷ Attribute authority ∷ Markup COLON.now ∷ Attribute code ∷ Markup AFTER_CONFLICT_LINK.now ∷ []
+conflict_link authority code false = []
+
 abbrev pub entry : (List ℕ → List ℕ) → Entry → List Piece
 entry named e =
-    entry_start e.id e.authority e.code e.name ++ flat_map map_of e.boxes ++ entry_text e.text ++ flat_map question e.questions ++ entry_id (named e.id) e.note
-    ++ flat_map (event named) e.events ++ (Markup AFTER_HISTORY.now ∷ []) ++ flat_map area e.areas ++ kind_and_standing e.kind e.standing ++ flat_map (by named) e.links ++ Markup AFTER_ENTRY.now ∷ []
+    entry_start e.id e.authority e.code e.name ++ text_or_link named e.same_text_as e.boxes e.text e.questions ++ entry_id (named e.id) e.note
+    ++ flat_map (event named) e.events ++ (Markup AFTER_HISTORY.now ∷ []) ++ flat_map area e.areas ++ kind_and_standing e.kind e.standing ++ flat_map (by named) e.links
+    ++ conflict_link e.authority e.code e.in_conflict ++ Markup AFTER_ENTRY.now ∷ []
 
 -- ---- the page
 

@@ -1,5 +1,5 @@
 -- The texts of a page in its order: those that keep their lines.
-use Rattle.std.specs.Prelude.{ℕ, List, [], ◌∷◌, ◌++◌, map}
+use Rattle.std.specs.Prelude.{ℕ, List, [], ◌∷◌, ◌++◌, map, Option, Some, None}
 use Rattle.std.specs.List.{flat_map}
 use Rattle.html_page.specs.Pieces.{Piece, Markup, Text, Lines, Short, Attribute, Numeral}
 use Rattle.html_page.specs.Shown.{Entry, Word, Side, Pair, Conflict, Shown}
@@ -25,9 +25,13 @@ pair_texts p = side_texts p.first ++ side_texts p.second
 abbrev pub conflict_texts : Conflict → List (List ℕ)
 conflict_texts c = flat_map pair_texts c.pairs
 
--- the text of a row, and then its questions
+-- the text of a row, and then its questions, unless they are in another row
+abbrev pub texts_unless : Option (List ℕ) → Entry → List (List ℕ)
+texts_unless None e = e.text ∷ e.questions
+texts_unless (Some id) e = []
+
 abbrev pub row_texts : Entry → List (List ℕ)
-row_texts e = e.text ∷ e.questions
+row_texts e = texts_unless e.same_text_as e
 
 abbrev pub entry_texts : List Entry → List (List ℕ)
 entry_texts es = flat_map row_texts es

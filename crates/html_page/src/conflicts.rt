@@ -2,17 +2,19 @@
 
 ghost use Rattle.std.specs.Prelude.{OnOk};
 ghost use Rattle.html_page.specs.Pieces.{Appends};
-ghost use Rattle.html_page.specs.Templates.{conflict_start, side_start, word};
+ghost use Rattle.html_page.specs.Templates.{conflict_start, conflict_link, side_start, word};
 
 use crate::markup::{
-    AFTER_CONFLICT_KEY, AFTER_WORD, BEFORE_SIDE_ID, BEFORE_SIDE_NOTE, BEFORE_SIDE_WORDS, COLON,
-    CONFLICT, SIDE, WORD,
+    AFTER_CONFLICT_KEY, AFTER_CONFLICT_LINK, AFTER_FOLD, AFTER_WORD, BEFORE_CONFLICT_KEY,
+    BEFORE_CONFLICT_LINK, BEFORE_SIDE_ID, BEFORE_SIDE_NOTE, BEFORE_SIDE_WORDS, COLON, CONFLICT,
+    FOLD, SIDE, WORD,
 };
 use crate::pieces::PagePiece::{Attribute, Lines, Markup, Text};
 use crate::pieces::push_pieces;
+use crate::run::RunKind;
 use std::alloc::AllocError;
 
-/// Appends the heading of a key in conflict.
+/// Appends the heading of a key in conflict, to which its link leads.
 pub fn push_conflict_start<'a>(
     page: &mut Vec<u8>,
     authority: &'a [u8],
@@ -24,10 +26,38 @@ pub fn push_conflict_start<'a>(
         page,
         &[
             Markup(CONFLICT),
+            Attribute(authority),
+            Markup(COLON),
+            Attribute(code),
+            Markup(BEFORE_CONFLICT_KEY),
             Text(authority),
             Markup(COLON),
             Text(code),
             Markup(AFTER_CONFLICT_KEY),
+        ],
+    )
+}
+
+/// Appends a link to the heading of a key, if it is in conflict.
+pub fn push_conflict_link<'a>(
+    page: &mut Vec<u8>,
+    authority: &'a [u8],
+    code: &'a [u8],
+    in_conflict: bool,
+) -> Result<(), AllocError>
+    ensures { OnOk result (Appends page.old.items page.new.items (conflict_link authority.now code.now in_conflict)) }
+{
+    if !in_conflict {
+        return push_pieces(page, &[]);
+    }
+    push_pieces(
+        page,
+        &[
+            Markup(BEFORE_CONFLICT_LINK),
+            Attribute(authority),
+            Markup(COLON),
+            Attribute(code),
+            Markup(AFTER_CONFLICT_LINK),
         ],
     )
 }
@@ -55,12 +85,13 @@ pub fn push_side_start<'a>(
     )
 }
 
-/// Appends a word, marked if the other side does not have it.
-pub fn push_word(page: &mut Vec<u8>, differs: bool, text: &[u8]) -> Result<(), AllocError>
-    ensures { OnOk result (Appends page.old.items page.new.items (word (record { differs = differs; text = text.now }))) }
+/// Appends a run of words: as it is, marked, or folded.
+pub fn push_word(page: &mut Vec<u8>, kind: RunKind, text: &[u8]) -> Result<(), AllocError>
+    ensures { OnOk result (Appends page.old.items page.new.items (word (record { kind = kind; text = text.now }))) }
 {
-    if differs {
-        return push_pieces(page, &[Markup(WORD), Lines(text), Markup(AFTER_WORD)]);
+    match kind {
+        RunKind::Plain => push_pieces(page, &[Lines(text)]),
+        RunKind::Differs => push_pieces(page, &[Markup(WORD), Lines(text), Markup(AFTER_WORD)]),
+        RunKind::Folded => push_pieces(page, &[Markup(FOLD), Lines(text), Markup(AFTER_FOLD)]),
     }
-    push_pieces(page, &[Lines(text)])
 }

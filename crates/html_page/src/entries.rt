@@ -2,13 +2,13 @@
 
 ghost use Rattle.std.specs.Prelude.{OnOk};
 ghost use Rattle.html_page.specs.Pieces.{Appends};
-ghost use Rattle.html_page.specs.Templates.{entry_start, entry_text, question, entry_id, operation_id, operation_note, area, kind_and_standing};
+ghost use Rattle.html_page.specs.Templates.{entry_start, entry_text, same_text, question, entry_id, operation_id, operation_note, area, kind_and_standing};
 
 use crate::markup::{
-    AFTER_AREA, AFTER_ENTRY_NOTE, AFTER_NAME, AFTER_NOTE, AFTER_QUESTION, AFTER_TEXT, AREA,
-    BEFORE_ENTRY_ID, BEFORE_ENTRY_KEY, BEFORE_ENTRY_LINK, BEFORE_ENTRY_NOTE, BEFORE_KIND,
-    BEFORE_NAME, BEFORE_NOTE, BEFORE_OPERATION, BEFORE_STANDING, BEFORE_TEXT, COLON, ENTRY,
-    QUESTION, RETIRED_CELL, SUPERSEDED_CELL, VALID_CELL,
+    AFTER_AREA, AFTER_ENTRY_NOTE, AFTER_NAME, AFTER_NOTE, AFTER_QUESTION, AFTER_SAME_TEXT,
+    AFTER_TEXT, AREA, BEFORE_ENTRY_ID, BEFORE_ENTRY_KEY, BEFORE_ENTRY_LINK, BEFORE_ENTRY_NOTE,
+    BEFORE_KIND, BEFORE_NAME, BEFORE_NOTE, BEFORE_OPERATION, BEFORE_SAME_ID, BEFORE_STANDING,
+    BEFORE_TEXT, COLON, ENTRY, QUESTION, RETIRED_CELL, SAME_TEXT, SUPERSEDED_CELL, VALID_CELL,
 };
 use crate::pieces::PagePiece::{Attribute, Lines, Markup, Text};
 use crate::pieces::push_pieces;
@@ -50,6 +50,26 @@ pub fn push_entry_text(page: &mut Vec<u8>, text: &[u8]) -> Result<(), AllocError
     push_pieces(
         page,
         &[Markup(BEFORE_TEXT), Lines(text), Markup(AFTER_TEXT)],
+    )
+}
+
+/// Appends a link to the row that has its text, and what is read in the place of the id of that row's entry.
+pub fn push_same_text<'a>(
+    page: &mut Vec<u8>,
+    id: &'a [u8],
+    read: &'a [u8],
+) -> Result<(), AllocError>
+    ensures { OnOk result (Appends page.old.items page.new.items (same_text id.now read.now)) }
+{
+    push_pieces(
+        page,
+        &[
+            Markup(SAME_TEXT),
+            Attribute(id),
+            Markup(BEFORE_SAME_ID),
+            Text(read),
+            Markup(AFTER_SAME_TEXT),
+        ],
     )
 }
 

@@ -5,7 +5,7 @@ pub const BEFORE_TITLE: &[u8] = b"<!DOCTYPE html>
 <html lang=\"en\">
 <head>
 <meta charset=\"utf-8\">
-<meta http-equiv=\"Content-Security-Policy\" content=\"default-src 'none'; style-src 'sha256-8cq9zP+gD9d+/gvwt2jKqg9y4H4+VWtszBw9moqNECU='; script-src 'sha256-NVefTYoG31UsSbGTgBpr3+nZ0as6oc3FU3uesye31iM='; base-uri 'none'; form-action 'none'\">
+<meta http-equiv=\"Content-Security-Policy\" content=\"default-src 'none'; style-src 'sha256-Dei68JMjrr3Coypd65Cpmny5g31Rj1ZIHcQttKUvFbw='; script-src 'sha256-oasOc/zy44uHnqy1VRmpz1KgQfOkCU60ffh8/QimDR0='; base-uri 'none'; form-action 'none'\">
 <meta name=\"viewport\" content=\"width=device-width, initial-scale=1\">
 <meta name=\"generator\" content=\"crsreg\">
 <title>";
@@ -70,10 +70,12 @@ pub const AFTER_FIGURES: &[u8] = b"</ul>
 
 pub const CONFLICTS_START: &[u8] = b"<section aria-labelledby=\"conflicts\">
 <h2 id=\"conflicts\">Conflicts</h2>
-<p class=\"soft\">Each of these codes has several definitions that are not retired. What differs is marked.</p>
+<p class=\"soft\">Each of these codes has several definitions that are not retired. What differs is marked; lines that are the same are folded, except for three around it.</p>
 ";
 
-pub const CONFLICT: &[u8] = b"<h3><bdi>";
+pub const CONFLICT: &[u8] = b"<h3 id=\"";
+
+pub const BEFORE_CONFLICT_KEY: &[u8] = b"\"><bdi>";
 
 pub const COLON: &[u8] = b":";
 
@@ -91,11 +93,21 @@ pub const BEFORE_SIDE_ID: &[u8] = b"\"><code>";
 pub const BEFORE_SIDE_NOTE: &[u8] = b"</code></a> <bdi class=\"soft\">";
 
 pub const BEFORE_SIDE_WORDS: &[u8] = b"</bdi></p>
-<pre>";
+<pre>
+";
 
 pub const WORD: &[u8] = b"<mark>";
 
 pub const AFTER_WORD: &[u8] = b"</mark>";
+
+/// The line feed after the tag is no part of the text, also where the text begins with one.
+pub const FOLD: &[u8] = b"</pre>
+<details><summary>Lines that are the same</summary><pre>
+";
+
+pub const AFTER_FOLD: &[u8] = b"</pre></details>
+<pre>
+";
 
 pub const AFTER_SIDE: &[u8] = b"</pre>
 </div>
@@ -215,6 +227,14 @@ pub const BEFORE_TEXT: &[u8] = b"<pre>";
 pub const AFTER_TEXT: &[u8] = b"</pre>
 ";
 
+/// A text that another row has is there alone.
+pub const SAME_TEXT: &[u8] = b"<div>The same text as <a href=\"#";
+
+pub const BEFORE_SAME_ID: &[u8] = b"\"><code>";
+
+pub const AFTER_SAME_TEXT: &[u8] = b"</code></a></div>
+";
+
 pub const QUESTION: &[u8] = b"<p><bdi>";
 
 pub const AFTER_QUESTION: &[u8] = b"</bdi></p>
@@ -262,6 +282,10 @@ pub const RETIRED_CELL: &[u8] = b"<td role=\"cell\" class=\"retired\">retired";
 pub const BY: &[u8] = b"<span>by ";
 
 pub const AFTER_BY: &[u8] = b"</span>";
+
+pub const BEFORE_CONFLICT_LINK: &[u8] = b"<span><a href=\"#";
+
+pub const AFTER_CONFLICT_LINK: &[u8] = b"\">in conflict</a></span>";
 
 pub const AFTER_ENTRY: &[u8] = b"</td>
 </tr>

@@ -31,13 +31,18 @@ try{return decodeURIComponent(hash)}catch(_){return hash}
 const unfold=()=>{
 const name=named();
 if(!name)return;
+for(const one of document.querySelectorAll('.aim'))one.classList.remove('aim');
+const heading=at(name);
+if(heading&&heading.matches('h3')){
+heading.scrollIntoView();
+return;
+}
 const all=bodies.flatMap(body=>[...body.rows]);
 const row=all.find(row=>row.id===name)||all.find(row=>row.cells[0].textContent===name);
 if(!row)return;
 if(withdrawn&&withdrawn.contains(row))withdrawn.open=true;
 row.hidden=false;
 row.querySelector('details').open=true;
-for(const one of document.querySelectorAll('.aim'))one.classList.remove('aim');
 row.classList.add('aim');
 row.scrollIntoView();
 requestAnimationFrame(()=>row.scrollIntoView());

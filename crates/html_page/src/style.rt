@@ -8,7 +8,7 @@ pub const STYLE: &[u8] = b"
 body{overflow-wrap:anywhere;margin:0 auto;max-width:78rem;padding:1.25rem clamp(.75rem,3vw,2rem) 4rem;background:var(--paper);color:var(--ink);font:16px/1.5 system-ui,-apple-system,'Segoe UI',Roboto,'Noto Sans',sans-serif}
 h1{margin:0;font-size:1.7rem;line-height:1.2}
 h2{margin:2.25rem 0 .5rem;padding-bottom:.3rem;border-bottom:1px solid var(--line);font-size:1.25rem}
-h3{margin:1.25rem 0 .5rem;font-size:1.05rem}
+h3{margin:1.25rem 0 .5rem;scroll-margin-top:.5rem;font-size:1.05rem}
 p{margin:.35rem 0}
 a{color:var(--link);text-underline-offset:.15em}
 code,pre,tbody th{font-family:ui-monospace,SFMono-Regular,Menlo,Consolas,'DejaVu Sans Mono',monospace;font-size:.82rem}
@@ -26,6 +26,8 @@ mark{background:var(--mark);color:inherit;text-decoration:underline;text-decorat
 .pair{display:grid;grid-template-columns:1fr 1fr;gap:1rem;margin-bottom:1rem}
 .pair div{min-width:0;padding:.6rem .9rem;border:1px solid var(--line);border-radius:8px}
 .pair pre{padding:0;background:none}
+.pair pre:empty{display:none}
+.pair summary{color:var(--soft);font-size:.85rem}
 .pair bdi{display:block}
 #search{display:block;width:100%;margin:.25rem 0;padding:.55rem .8rem;border:1px solid var(--soft);border-radius:8px;background:var(--paper);color:inherit;font:inherit}
 #found{color:var(--soft);font-size:.9rem}
@@ -47,7 +49,8 @@ tbody tr:target,tbody tr.aim{background:var(--card);box-shadow:inset 4px 0 var(-
 .entries thead{position:sticky;top:0;z-index:1;background:var(--paper)}
 .entries tr{display:grid;grid-template-columns:9.5rem minmax(0,1fr) 7.5rem 9.5rem;border-bottom:1px solid var(--line)}
 .entries th,.entries td{border:0}
-.entries tbody tr{content-visibility:auto;contain-intrinsic-size:auto 4rem}
+.entries tbody tr{content-visibility:auto;contain-intrinsic-size:auto 4rem;scroll-margin-top:3rem}
+.entries div{margin:.5rem 0 0;font-size:.9rem}
 .entries p{margin:.1rem 0 0 1.15rem;color:var(--soft);font-size:.88rem;overflow-wrap:anywhere}
 .entries td span{display:block}
 .entries tr[hidden]{display:none}

@@ -7,6 +7,8 @@ pub mod SectionLemmas
 pub mod DescribeLemmas
 pub mod SideLemmas
 mod RowLemmas
+mod SameTextLemmas
+mod ToldLemmas
 pub mod WholeLemmas
 pub mod IdLemmas
 pub mod FindLemmas

@@ -6,7 +6,7 @@ use Rattle.std.proofs.lemmas.List.Sorted.{Contains-permutation, IsPermutation-sy
 use Rattle.std.proofs.lemmas.List.Sums.{sum_by-cons}
 use Rattle.std.proofs.lemmas.Map.Keys.{IsDistinct-tail}
 use Rattle.std.proofs.lemmas.Cmp.{nat_list_cmp_total}
-use Rattle.std.specs.List.{Contains, IsDistinct, sum_by}
+use Rattle.std.specs.List.{Contains, IsDistinct, sum_by, list_any}
 use Rattle.std.specs.List.Sorted.{IsSorted}
 use Rattle.std.specs.Cmp.{IsTotalOrder, then_total, on_total}
 use Rattle.std.specs.Cmp.Lexicographic.{slice_cmp}
@@ -45,7 +45,7 @@ use Rattle.reg_op.proofs.SetLemmas.{less}
 use Rattle.reg_op.proofs.ClashLemmas.{tied_of}
 use Rattle.reg_op.proofs.ItemLemmas.{items_by_id}
 use Rattle.reg_report.specs.declared.gap.Gap.{Gap}
-use Rattle.reg_report.specs.Conflicts.{Contested}
+use Rattle.reg_report.specs.Conflicts.{key_cmp, Contested}
 use Rattle.reg_report.proofs.ConflictLemmas.{in_head, in_tail, in_map, from_map}
 use Rattle.reg_report.proofs.OneLemmas as contested
 use Rattle.reg_report.proofs.GapLists as missing
@@ -58,7 +58,8 @@ use Rattle.reg_page.specs.Codes.{code_cmp}
 use Rattle.reg_page.proofs.CodeLemmas.{code_total}
 use Rattle.reg_page.specs.declared.described.Described.{Described}
 use Rattle.reg_page.specs.Descriptions.{IsDescribed, described_cmp, entry_ids, AreDescribed}
-use Rattle.reg_page.specs.Page.{described_at, link_as, link_to, side_of, pairs_of, acts_in, entry_of, gap_of, standing_of, is_valid, is_superseded, is_retired, is_among, figures_of, shown_of, IsPage, named}
+use Rattle.reg_page.specs.Page.{described_at, link_as, link_to, side_of, pairs_of, acts_in, is_in_conflict, row_of, gap_of, standing_of, is_valid, is_superseded, is_retired, is_among, figures_of, shown_of, IsPage, named}
+use Rattle.reg_page.specs.SameTexts.{has_same_text, first_id, same_text_in}
 use Rattle.reg_page.proofs.IdLemmas.{ids_ascend, distinct, still_distinct, differs}
 use Rattle.reg_page.proofs.FindLemmas.{ids_of}
 use Rattle.reg_page.proofs.SameLemmas.{Same, entry_same, conflict_same}
@@ -240,6 +241,30 @@ all_among (t ∷ ts) (u ∷ us) h gone s =
       | false ↦ rest
     ])
 
+-- the first with the text and the key of an entry
+all_with_text : (ts us : List Described) → AllSame ts us → (t u : Described) → Same t u → AllSame (filter (has_same_text t) ts) (filter (has_same_text u) us)
+all_with_text [] [] h t u same = tt
+all_with_text [] (w ∷ us) h t u same = absurd h
+all_with_text (v ∷ ts) [] h t u same = absurd h
+all_with_text (v ∷ ts) (w ∷ us) h t u same =
+    let rest = all_with_text ts us h.1 t u same in
+    let is : has_same_text t v ≡ has_same_text u w =
+    (λ j. is_eq (ordering_then (slice_cmp nat_cmp (same.text j) (h.0.text j)) (key_cmp (record { authority = same.authority j; code = same.code j }) (record { authority = h.0.authority j; code = h.0.code j })))) in
+    subst (λ b. AllSame (filter (has_same_text t) (v ∷ ts)) (cond b (w ∷ filter (has_same_text u) us) (filter (has_same_text u) us))) is
+    (elim (has_same_text t v) as (λ b. AllSame (cond b (v ∷ filter (has_same_text t) ts) (filter (has_same_text t) ts)) (cond b (w ∷ filter (has_same_text u) us) (filter (has_same_text u) us))) [
+      | true ↦ (h.0, rest)
+      | false ↦ rest
+    ])
+
+first_same : (ts us : List Described) → AllSame ts us → first_id ts ≡ first_id us
+first_same [] [] h = refl
+first_same [] (u ∷ us) h = absurd h
+first_same (t ∷ ts) [] h = absurd h
+first_same (t ∷ ts) (u ∷ us) h = λ j. Some (h.0.id j)
+
+conflict_is_same : (cs : List Contested) (t u : Described) → Same t u → is_in_conflict cs t ≡ is_in_conflict cs u
+conflict_is_same cs t u same = λ j. list_any (λ (c : Contested). is_eq (key_cmp c.key (record { authority = same.authority j; code = same.code j }))) cs
+
 same_rows : (ts us : List Described) → AllSame ts us → (f g : Described → shown.Entry) → ((t u : Described) → Same t u → f t ≡ g u) → map f ts ≡ map g us
 same_rows [] [] h f g each = refl
 same_rows [] (u ∷ us) h f g each = absurd h
@@ -270,6 +295,11 @@ module _ (x : Content) (title : List ℕ) (ts us : List Described) (same : AllSa
     operations = length (set.items x.ops);
   }
 
+  row : (os : List Op) (cs : List Contested) (told other : List Described) → AllSame told other → (t u : Described) → Same t u → row_of x.ops ts os cs told t ≡ row_of x.ops us os cs other u
+  row os cs told other all t u one =
+      entry_same ts us link x.ops os os (λ e. refl) (same_text_in told t) (same_text_in other u) (first_same (filter (has_same_text t) told) (filter (has_same_text u) other) (all_with_text told other all t u one))
+      (is_in_conflict cs t) (is_in_conflict cs u) (conflict_is_same cs t u one) t u one
+
   shown_same : (os : List Op) (cs : List Contested) (is : List Id) (gs : List Gap) → shown_of x title ts os cs is gs ≡ shown_of x title us os cs is gs
   shown_same os cs is gs = λ j. record {
     title = title;
@@ -277,8 +307,9 @@ module _ (x : Content) (title : List ℕ) (ts us : List Described) (same : AllSa
     conflicts = map (λ (c : Contested). conflict_same ts us pair c j) cs;
     awaited = map printed is;
     gaps = map gap_of gs;
-    entries = parts_same ts us same false x.ops (entry_of x.ops ts os) (entry_of x.ops us os) (entry_same ts us link x.ops os os (λ e. refl)) j;
-    retired = parts_same ts us same true x.ops (entry_of x.ops ts os) (entry_of x.ops us os) (entry_same ts us link x.ops os os (λ e. refl)) j;
+    entries = parts_same ts us same false x.ops (row_of x.ops ts os cs []) (row_of x.ops us os cs []) (row os cs [] [] tt) j;
+    retired = parts_same ts us same true x.ops (row_of x.ops ts os [] (filter (is_among false x.ops) ts)) (row_of x.ops us os [] (filter (is_among false x.ops) us))
+        (row os [] (filter (is_among false x.ops) ts) (filter (is_among false x.ops) us) (all_among ts us same false x.ops)) j;
   }
 
 pub one_page : (rules : List Rule) (title : List ℕ) (names : List Name) (x : Content) (a b : List ℕ) → IsContent x → IsPage rules title names x a → IsPage rules title names x b → a ≡ b

@@ -1,5 +1,5 @@
 -- Descriptions that show the same give the same rows, and a permutation of descriptions gives the same links and pairs.
-use Rattle.std.proofs.Common.{◌≡◌, ℕ, Bool, List, [], ◌∷◌, ◌++◌, map, filter, length, cond, if◌then◌else◌, refl, sym, ap, ◌∙◌}
+use Rattle.std.proofs.Common.{◌≡◌, ℕ, Bool, Option, List, [], ◌∷◌, ◌++◌, map, filter, length, cond, if◌then◌else◌, refl, sym, ap, ◌∙◌}
 use Rattle.std.specs.List.{flat_map}
 use Rattle.std.specs.List.Sorted.{IsPermutation}
 use Rattle.std.specs.Global.{Vec}
@@ -19,7 +19,8 @@ use Rattle.reg_page.specs.declared.described.Described.{Described}
 use Rattle.reg_page.specs.Descriptions.{AscendById}
 use Rattle.reg_page.specs.Kinds.{kind_word}
 use Rattle.reg_page.specs.Boxes.{box_seen}
-use Rattle.reg_page.specs.Page.{standing_of, described_at, link_as, link_to, is_on, links_by, links_in, events_by, events_in, entry_of, pairs_of, pairs_from, pairs_among, conflict_of, is_valid, is_superseded, is_retired, is_among, rows_of, figures_of}
+use Rattle.reg_page.specs.Page.{standing_of, described_at, link_as, link_to, is_on, links_by, links_in, events_by, events_in, printed_if, entry_of, is_in_conflict, pairs_of, pairs_from, pairs_among, conflict_of, is_valid, is_superseded, is_retired, is_among, rows_of, figures_of}
+use Rattle.reg_page.specs.SameTexts.{same_text_in}
 use Rattle.reg_page.proofs.ActLemmas.{same_links, same_events}
 use Rattle.reg_page.proofs.FindLemmas.{same_at}
 
@@ -51,8 +52,9 @@ module _ (ts us : List Described) (link : (i : Id) → link_to ts i ≡ link_to 
   events_same e id note (Supersede old newer) = ap (λ (l : shown.Link). if is_same old e then shown.SupersededBy l id note ∷ [] else []) (link newer)
   events_same e id note (Retire entry) = refl
 
-  pub entry_same : (s : Ops) (os ps : List Op) → ((e : Id) → filter (is_on e) os ≡ filter (is_on e) ps) → (t u : Described) → Same t u → entry_of s ts os t ≡ entry_of s us ps u
-  entry_same s os ps on t u same =
+  pub entry_same : (s : Ops) (os ps : List Op) → ((e : Id) → filter (is_on e) os ≡ filter (is_on e) ps) → (o p : Option Id) → o ≡ p → (b c : Bool) → b ≡ c → (t u : Described) → Same t u
+      → entry_of s ts os o b t ≡ entry_of s us ps p c u
+  entry_same s os ps on o p told b c contested t u same =
       let links : flat_map (links_in ts t.id) os ≡ flat_map (links_in us u.id) ps =
       (λ j. flat_map (λ (o : Op). links_same t.id o.body j) os) ∙ same_links us t.id os ps (on t.id) ∙ (λ j. flat_map (links_in us (same.id j)) ps) in
       let events : flat_map (events_in ts t.id) os ≡ flat_map (events_in us u.id) ps =
@@ -71,6 +73,8 @@ module _ (ts us : List Described) (link : (i : Id) → link_to ts i ≡ link_to 
         questions = same.questions j;
         note = same.note j;
         events = events j;
+        same_text_as = printed_if (told j);
+        in_conflict = contested j;
       }
 
 -- if both lists have the same pairs, they have the same conflicts
@@ -98,8 +102,9 @@ module _ (ts us : List Described) (up : AscendById ts) (p : IsPermutation ts us)
   pub conflicts_moved : (cs : List Contested) → map (conflict_of ts) cs ≡ map (conflict_of us) cs
   conflicts_moved cs = λ j. map (λ (c : Contested). conflict_same ts us pair_moved c j) cs
 
-  pub rows_moved : (gone : Bool) (s : Ops) (os : List Op) (rows : List Described) → rows_of gone s ts os rows ≡ rows_of gone s us os rows
-  rows_moved gone s os rows = λ j. map (λ (t : Described). entry_same ts us link_moved s os os (λ e. refl) t t (itself t) j) (filter (is_among gone s) rows)
+  pub rows_moved : (cs : List Contested) (told : List Described) (gone : Bool) (s : Ops) (os : List Op) (rows : List Described) → rows_of cs told gone s ts os rows ≡ rows_of cs told gone s us os rows
+  rows_moved cs told gone s os rows = λ j.
+      map (λ (t : Described). entry_same ts us link_moved s os os (λ e. refl) (same_text_in told t) (same_text_in told t) refl (is_in_conflict cs t) (is_in_conflict cs t) refl t t (itself t) j) (filter (is_among gone s) rows)
 
   pub figures_moved : (x : Content) (cs : List Contested) (is : List Id) (gs : List Gap) → figures_of x ts cs is gs ≡ figures_of x us cs is gs
   figures_moved x cs is gs = λ j. record {

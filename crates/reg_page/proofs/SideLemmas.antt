@@ -15,7 +15,7 @@ use Rattle.reg_report.specs.Conflicts.{Contested}
 use Rattle.reg_report.proofs.ConflictLemmas.{none_in, in_cons, in_head, in_tail, in_map, from_map}
 use Rattle.crs_sense.specs.declared.rule.Rule.{Rule}
 use Rattle.reg_page.specs.declared.described.Described.{Described}
-use Rattle.reg_page.specs.Page.{described_at, standing_of, is_retired, is_among, entry_of, side_of, pairs_of, pairs_from, pairs_among, conflict_of, acts_in, shown_of, IsShown, IsSide}
+use Rattle.reg_page.specs.Page.{described_at, standing_of, is_retired, is_among, row_of, side_of, pairs_of, pairs_from, pairs_among, conflict_of, acts_in, shown_of, IsShown, IsSide}
 
 pub found_in : {X : Type 0} (t : X → Bool) (xs : List X) (x : X) → find t xs ≡ Some x → Contains xs x
 found_in t [] x e = absurd cc
@@ -40,16 +40,25 @@ module _ (title : List ℕ) (y : Content) (described : List Described) (acts : L
   abbrev shows : shown.Shown
   shows = shown_of y title described acts cs' ids gaps
 
-  there : (t : Described) → Contains described t → Contains shows.entries (entry_of y.ops described acts t) ⊎ Contains shows.retired (entry_of y.ops described acts t)
-  there t c =
-      elim (is_retired (standing_of (status y.ops t.id))) as (λ b. is_retired (standing_of (status y.ops t.id)) ≡ b
-      → Contains shows.entries (entry_of y.ops described acts t) ⊎ Contains shows.retired (entry_of y.ops described acts t)) [
-        | true ↦ λ e. inr (in_map (entry_of y.ops described acts) (filter (is_among true y.ops) described) t (filter_in (is_among true y.ops) described t c e))
-        | false ↦ λ e. inl (in_map (entry_of y.ops described acts) (filter (is_among false y.ops) described) t (filter_in (is_among false y.ops) described t c (ap not e)))
-      ] refl
+  abbrev live : List Described
+  live = filter (is_among false y.ops) described
 
   side : (t other : Described) → Contains described t → IsSide shows (side_of t other)
-  side t other c = record { entry = entry_of y.ops described acts t; there = there t c; id = refl; words = compared_is t.system.text.items other.system.text.items }
+  side t other c =
+      elim (is_retired (standing_of (status y.ops t.id))) as (λ b. is_retired (standing_of (status y.ops t.id)) ≡ b → IsSide shows (side_of t other)) [
+        | true ↦ λ e. record {
+          entry = row_of y.ops described acts [] live t;
+          there = inr (in_map (row_of y.ops described acts [] live) (filter (is_among true y.ops) described) t (filter_in (is_among true y.ops) described t c e));
+          id = refl;
+          words = compared_is t.system.text.items other.system.text.items;
+        }
+        | false ↦ λ e. record {
+          entry = row_of y.ops described acts cs' [] t;
+          there = inl (in_map (row_of y.ops described acts cs' []) live t (filter_in (is_among false y.ops) described t c (ap not e)));
+          id = refl;
+          words = compared_is t.system.text.items other.system.text.items;
+        }
+      ] refl
 
   sides : (one other : Option Described) → ((t : Described) → one ≡ Some t → Contains described t) → ((t : Described) → other ≡ Some t → Contains described t)
       → (p : shown.Pair) → Contains (pairs_of one other) p → IsSide shows p.first × IsSide shows p.second

@@ -1,5 +1,5 @@
 -- Each row of the page shows an entry of the register, and the rows are in the order of their keys.
-use Rattle.std.proofs.Common.{◌≡◌, ℕ, ◌+◌, zero, suc, Bool, true, false, All, filter, List, [], ◌∷◌, map, get_or, arith, refl, sym, ap, subst}
+use Rattle.std.proofs.Common.{◌≡◌, ℕ, ◌+◌, zero, suc, Bool, true, false, All, Option, filter, List, [], ◌∷◌, map, get_or, arith, refl, sym, ap, subst}
 use Rattle.std.proofs.lemmas.List.Elements.{All-map, All-filter}
 use Rattle.std.proofs.lemmas.List.Kept.{IsSortedBy-filter}
 use Rattle.std.proofs.lemmas.List.Sorted.{ranks_by}
@@ -10,7 +10,7 @@ use Rattle.std.specs.Ordering.{nat_cmp, ordering_then, is_lt}
 use Rattle.std.specs.Cmp.Lexicographic.{slice_cmp}
 use Rattle.html_page.specs.Shown as shown
 use Rattle.reg_op.specs.Contents.{Content}
-use Rattle.reg_op.specs.Ids.{id_cmp}
+use Rattle.reg_op.specs.Ids.{Id, id_cmp}
 use Rattle.reg_op.specs.Kept.{entering}
 use Rattle.reg_op.specs.Operations.{Op, Ops}
 use Rattle.reg_op.specs.Set as set
@@ -19,15 +19,17 @@ use Rattle.reg_page.specs.declared.described.Described.{Described}
 use Rattle.reg_page.specs.Codes.{code_cmp}
 use Rattle.reg_page.specs.Descriptions.{IsDescribed, described_cmp}
 use Rattle.reg_page.specs.Kinds.{kind_word}
-use Rattle.reg_page.specs.Page.{is_among, entry_of, rows_of, acts_in, IsShown}
+use Rattle.reg_report.specs.Conflicts.{Contested}
+use Rattle.reg_page.specs.Page.{is_among, entry_of, is_in_conflict, row_of, rows_of, acts_in, IsShown}
+use Rattle.reg_page.specs.SameTexts.{same_text_in}
 use Rattle.reg_page.specs.Rows.{ShowsEntry, entry_cmp}
 use Rattle.reg_page.proofs.DescribeLemmas.{described_total}
 
 -- ---- texts
 
 module _ (rules : List Rule) (s : Ops) (described : List Described) (os : List Op) where
-  shows : (t : Described) → IsDescribed rules s t → ShowsEntry rules s (entry_of s described os t)
-  shows t h =
+  shows : (same : Option Id) (contested : Bool) (t : Described) → IsDescribed rules s t → ShowsEntry rules s (entry_of s described os same contested t)
+  shows same contested t h =
       let d = h.described in
       record {
         id = t.id;
@@ -49,17 +51,18 @@ module _ (rules : List Rule) (s : Ops) (described : List Described) (os : List O
         questions = d.system.shows.questions;
       }
 
-  rows_show : (ts : List Described) → All (IsDescribed rules s) ts → (gone : Bool) → All (ShowsEntry rules s) (rows_of gone s described os ts)
-  rows_show ts each gone =
-      All-map (ShowsEntry rules s) (entry_of s described os) (filter (is_among gone s) ts)
-      (All-filter (is_among gone s) (λ t. ShowsEntry rules s (entry_of s described os t)) ts (λ k d h. shows (get_or ts k d) (each k d h)))
+  rows_show : (cs : List Contested) (told ts : List Described) → All (IsDescribed rules s) ts → (gone : Bool) → All (ShowsEntry rules s) (rows_of cs told gone s described os ts)
+  rows_show cs told ts each gone =
+      All-map (ShowsEntry rules s) (row_of s described os cs told) (filter (is_among gone s) ts)
+      (All-filter (is_among gone s) (λ t. ShowsEntry rules s (row_of s described os cs told t)) ts (λ k d h.
+      shows (same_text_in told (get_or ts k d)) (is_in_conflict cs (get_or ts k d)) (get_or ts k d) (each k d h)))
 
 pub all_show : (rules : List Rule) (title : List ℕ) (x : Content) (s : shown.Shown) → IsShown rules title x s → All (ShowsEntry rules x.ops) s.entries × All (ShowsEntry rules x.ops) s.retired
 all_show rules title x s h =
     let ts = h.described in
     let each = h.are_described.each in
     subst (λ (z : shown.Shown). All (ShowsEntry rules x.ops) z.entries × All (ShowsEntry rules x.ops) z.retired) (sym h.is)
-    (rows_show rules x.ops ts (acts_in x.ops) ts each false, rows_show rules x.ops ts (acts_in x.ops) ts each true)
+    (rows_show rules x.ops ts (acts_in x.ops) h.conflicts [] ts each false, rows_show rules x.ops ts (acts_in x.ops) [] (filter (is_among false x.ops) ts) ts each true)
 
 -- ---- order
 
@@ -82,9 +85,9 @@ rows_sorted f each (t ∷ u ∷ ts) up (suc k) d low h =
     subst (λ m. is_lt (described_cmp (get_or (t ∷ u ∷ ts) m v) (get_or (u ∷ ts) i v)) ≡ false) g (up (suc i) v (omega arith) (omega arith))) k d (omega arith) (omega (arith, h)))
 
 module _ (s : Ops) (described : List Described) (os : List Op) where
-  in_order : (ts : List Described) → IsSorted described_cmp ts → (gone : Bool) → IsSorted entry_cmp (rows_of gone s described os ts)
-  in_order ts up gone =
-      rows_sorted (entry_of s described os) (λ t u h. first_two (slice_cmp nat_cmp u.key.authority.bytes t.key.authority.bytes) (code_cmp u.key.code.bytes t.key.code.bytes) (id_cmp u.id t.id) h) (filter (is_among gone s) ts)
+  in_order : (cs : List Contested) (told ts : List Described) → IsSorted described_cmp ts → (gone : Bool) → IsSorted entry_cmp (rows_of cs told gone s described os ts)
+  in_order cs told ts up gone =
+      rows_sorted (row_of s described os cs told) (λ t u h. first_two (slice_cmp nat_cmp u.key.authority.bytes t.key.authority.bytes) (code_cmp u.key.code.bytes t.key.code.bytes) (id_cmp u.id t.id) h) (filter (is_among gone s) ts)
       (IsSortedBy-filter (λ (a b : Described). is_lt (described_cmp a b)) (ranks_by described_total (λ (t : Described). t)) (is_among gone s) ts up)
 
 pub all_in_order : (rules : List Rule) (title : List ℕ) (x : Content) (s : shown.Shown) → IsShown rules title x s → IsSorted entry_cmp s.entries × IsSorted entry_cmp s.retired
@@ -92,4 +95,4 @@ all_in_order rules title x s h =
     let ts = h.described in
     let up = h.are_described.sorted in
     subst (λ (z : shown.Shown). IsSorted entry_cmp z.entries × IsSorted entry_cmp z.retired) (sym h.is)
-    (in_order x.ops ts (acts_in x.ops) ts up false, in_order x.ops ts (acts_in x.ops) ts up true)
+    (in_order x.ops ts (acts_in x.ops) h.conflicts [] ts up false, in_order x.ops ts (acts_in x.ops) [] (filter (is_among false x.ops) ts) ts up true)

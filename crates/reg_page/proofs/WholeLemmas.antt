@@ -22,7 +22,8 @@ use Rattle.reg_page.specs.declared.described.Described.{Described}
 use Rattle.reg_page.specs.declared.gathered.Gathered.{Gathered}
 use Rattle.reg_page.specs.Descriptions.{AscendById, AreDescribed, InOrder}
 use Rattle.reg_page.specs.Gathered.{IsGathered}
-use Rattle.reg_page.specs.Page.{is_on, acts_in, conflict_of, gap_of, is_among, rows_of, figures_of, shown_of, IsPage, named}
+use Rattle.reg_page.specs.Page.{is_on, acts_in, conflict_of, gap_of, is_among, is_in_conflict, row_of, rows_of, figures_of, shown_of, IsPage, named}
+use Rattle.reg_page.specs.SameTexts.{same_text_in}
 use Rattle.reg_page.specs.Blocks.{gap_section}
 use Rattle.reg_page.specs.Parts.{top, unsettled, open_ends, table}
 use Rattle.reg_page.proofs.ActLemmas.{same_on}
@@ -45,13 +46,13 @@ joined p q r s t u v w x y z one two three =
 
 -- appending the three parts of a page appends the page
 pub in_parts : (read : List ℕ → List ℕ) (x : Content) (title : List ℕ) (described : List Described) (acts : List Op) (cs : List Contested) (is : List Id) (gaps : List Gap) {a b c d : List ℕ}
-    → Appends a b (top title (figures_of x described cs is gaps)) → Appends b c (open_ends read (map (conflict_of described) cs) (map printed is) (map gap_of gaps)) → Appends c d (table read (rows_of false x.ops described acts described) (rows_of true x.ops described acts described))
+    → Appends a b (top title (figures_of x described cs is gaps)) → Appends b c (open_ends read (map (conflict_of described) cs) (map printed is) (map gap_of gaps)) → Appends c d (table read (rows_of cs [] false x.ops described acts described) (rows_of [] (filter (is_among false x.ops) described) true x.ops described acts described))
     → Appends a d (page read (shown_of x title described acts cs is gaps))
 in_parts read x title described acts cs is gaps one two three =
     joined (head title) (figures (figures_of x described cs is gaps)) (Markup AFTER_FIGURES.now ∷ [])
     (section CONFLICTS_START.now (conflict read) CONFLICTS_END.now (map (conflict_of described) cs)) (section AWAITED_START.now (waiting read) AWAITED_END.now (map printed is)) (section GAPS_START.now (gap read) GAPS_END.now (map gap_of gaps))
-    (Markup ENTRIES_START.now ∷ []) (flat_map (entry read) (rows_of false x.ops described acts described)) (Markup ENTRIES_END.now ∷ [])
-    (section RETIRED_START.now (entry read) RETIRED_END.now (rows_of true x.ops described acts described)) end one two three
+    (Markup ENTRIES_START.now ∷ []) (flat_map (entry read) (rows_of cs [] false x.ops described acts described)) (Markup ENTRIES_END.now ∷ [])
+    (section RETIRED_START.now (entry read) RETIRED_END.now (rows_of [] (filter (is_among false x.ops) described) true x.ops described acts described)) end one two three
 
 -- appending the page of what the content shows to an empty text gives the page of the content
 pub is_page : (rules : List Rule) (title : List ℕ) (names : List Name) (x : Content) (rows : List Described) (cs : List Contested) (gaps : List Gap)
@@ -61,14 +62,17 @@ pub is_page : (rules : List Rule) (title : List ℕ) (names : List Name) (x : Co
     → Appends start last (page (named names) (shown_of x title rows acts cs' is gaps')) → IsPage rules title names x last
 is_page rules title names x rows cs gaps acts cs' is gaps' start last t c g on ec ei eg es h =
     let wanted = set.items (awaited x.ops) in
+    let live = filter (is_among false x.ops) rows in
+    let one : (ks : List Contested) (told : List Described) (r : Described) → row_of x.ops rows acts ks told r ≡ row_of x.ops rows (acts_in x.ops) ks told r =
+    λ ks told r. entry_same rows rows (λ i. refl) x.ops acts (acts_in x.ops) on (same_text_in told r) (same_text_in told r) refl (is_in_conflict ks r) (is_in_conflict ks r) refl r r (itself r) in
     let shows : shown_of x title rows acts cs wanted gaps ≡ shown_of x title rows (acts_in x.ops) cs wanted gaps = λ j. record {
       title = title;
       figures = figures_of x rows cs wanted gaps;
       conflicts = map (conflict_of rows) cs;
       awaited = map printed wanted;
       gaps = map gap_of gaps;
-      entries = map (λ (r : Described). entry_same rows rows (λ i. refl) x.ops acts (acts_in x.ops) on r r (itself r) j) (filter (is_among false x.ops) rows);
-      retired = map (λ (r : Described). entry_same rows rows (λ i. refl) x.ops acts (acts_in x.ops) on r r (itself r) j) (filter (is_among true x.ops) rows);
+      entries = map (λ (r : Described). one cs [] r j) live;
+      retired = map (λ (r : Described). one [] live r j) (filter (is_among true x.ops) rows);
     } in
     record {
       shows = shown_of x title rows (acts_in x.ops) cs wanted gaps;
@@ -80,14 +84,15 @@ is_page rules title names x rows cs gaps acts cs' is gaps' start last t c g on e
 -- order
 pub is_whole : (read : List ℕ → List ℕ) (x : Content) (title : List ℕ) (ts rows : List Described) (acts : List Op) (cs : List Contested) (is : List Id) (gaps : List Gap) (first front later : List ℕ)
     → AscendById ts → IsPermutation ts rows → first ≡ html (top title (figures_of x ts cs is gaps)) → front ≡ html (unsettled read (map (conflict_of ts) cs) (map printed is))
-    → later ≡ html (table read (rows_of false x.ops ts acts rows) (rows_of true x.ops ts acts rows))
+    → later ≡ html (table read (rows_of cs [] false x.ops ts acts rows) (rows_of [] (filter (is_among false x.ops) rows) true x.ops ts acts rows))
     → first ++ (front ++ (html (gap_section read gaps) ++ later)) ≡ html (page read (shown_of x title rows acts cs is gaps))
 is_whole read x title ts rows acts cs is gaps first front later up same before between after =
+    let live = filter (is_among false x.ops) rows in
     let missing : List Piece = gap_section read gaps in
     let others : List Piece = unsettled read (map (conflict_of rows) cs) (map printed is) in
-    let entries : List Piece = table read (rows_of false x.ops rows acts rows) (rows_of true x.ops rows acts rows) in
+    let entries : List Piece = table read (rows_of cs [] false x.ops rows acts rows) (rows_of [] live true x.ops rows acts rows) in
     let front_moved : front ≡ html others = between ∙ (λ j. html (unsettled read (conflicts_moved ts rows up same cs j) (map printed is))) in
-    let later_moved : later ≡ html entries = after ∙ (λ j. html (table read (rows_moved ts rows up same false x.ops acts rows j) (rows_moved ts rows up same true x.ops acts rows j))) in
+    let later_moved : later ≡ html entries = after ∙ (λ j. html (table read (rows_moved ts rows up same cs [] false x.ops acts rows j) (rows_moved ts rows up same [] live true x.ops acts rows j))) in
     let whole : Appends [] ((first ++ html (others ++ missing)) ++ html entries) (page read (shown_of x title rows acts cs is gaps)) =
     in_parts read x title rows acts cs is gaps {b = first} {c = first ++ html (others ++ missing)}
     (record { is = before ∙ ap (λ f. html (top title f)) (figures_moved ts rows up same x cs is gaps) }) (record { is = refl }) (record { is = refl }) in

@@ -2,6 +2,7 @@ pub mod Kinds
 pub mod Boxes
 pub mod Codes
 pub mod Descriptions
+pub mod SameTexts
 pub mod Page
 pub mod Parts
 pub mod Blocks

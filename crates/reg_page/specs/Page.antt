@@ -1,7 +1,8 @@
 -- The page of a register.
 use Rattle.std.specs.Prelude.{◌≡◌, ◌⊎◌, ℕ, Bool, true, false, not, List, [], ◌∷◌, ◌++◌, filter, find, map, length, Contains, Option, Some, None, if◌then◌else◌}
 use Rattle.std.specs.Global.{Vec}
-use Rattle.std.specs.List.{flat_map, count_by}
+use Rattle.std.specs.List.{flat_map, count_by, list_any}
+use Rattle.std.specs.Ordering.{is_eq}
 use Rattle.uuid.specs.Text.{hyphenated_text, lower}
 use Rattle.csv_table.specs.declared.offices.names.Name.{Name}
 use Rattle.csv_table.specs.Shown as office
@@ -14,6 +15,7 @@ use Rattle.html_page.specs.Templates.{page}
 use Rattle.html_page.specs.Words.{compared}
 use Rattle.crs_sense.specs.declared.rule.Rule.{Rule}
 use Rattle.reg_op.specs.Set as set
+use Rattle.reg_op.specs.Set.{Ascends}
 use Rattle.reg_op.specs.Ids.{Id, is_same}
 use Rattle.reg_op.specs.Text.{printed}
 use Rattle.reg_op.specs.Operations.{Op, Ops}
@@ -26,11 +28,14 @@ use Rattle.reg_op.specs.declared.status.Status.TheVariants as statuses
 use Rattle.reg_op.specs.Rows.{rows, awaited}
 use Rattle.reg_report.specs.declared.gap.Gap.{Gap}
 use Rattle.reg_report.specs.Gaps.{AreGaps}
-use Rattle.reg_report.specs.Conflicts.{Contested, AreConflicts}
+use Rattle.reg_report.specs.Conflicts.{bytes_of, key_cmp, Contested, AreConflicts}
+use Rattle.reg_report.specs.declared.conflict.Conflict.{Conflict}
+use Rattle.reg_report.specs.Contenders.{conflict_seen}
 use Rattle.reg_page.specs.declared.described.Described.{Described}
 use Rattle.reg_page.specs.Descriptions.{AreDescribed}
 use Rattle.reg_page.specs.Kinds.{kind_word}
 use Rattle.reg_page.specs.Boxes.{box_seen}
+use Rattle.reg_page.specs.SameTexts.{same_text_in}
 
 -- ---- entries
 
@@ -85,9 +90,14 @@ links_in described e o = links_by described e o.body
 abbrev pub events_in : List Described → Id → Op → List shown.Event
 events_in described e o = events_by described e (printed o.id) o.note o.body
 
--- the row of an entry, with what the operations do to it
-abbrev pub entry_of : Ops → List Described → List Op → Described → shown.Entry
-entry_of s described os t = record {
+abbrev pub printed_if : Option Id → Option (List ℕ)
+printed_if None = None
+printed_if (Some i) = Some (printed i)
+
+-- the row of an entry, with what the operations do to it; with the entry whose row has its text, if there is one; and with whether it is in
+-- conflict
+abbrev pub entry_of : Ops → List Described → List Op → Option Id → Bool → Described → shown.Entry
+entry_of s described os same contested t = record {
   id = printed t.id;
   authority = t.key.authority.bytes;
   code = t.key.code.bytes;
@@ -101,7 +111,21 @@ entry_of s described os t = record {
   questions = map (λ (q : Vec ℕ). q.items) t.system.questions.items;
   note = t.note.items;
   events = flat_map (events_in described t.id) os;
+  same_text_as = printed_if same;
+  in_conflict = contested;
 }
+
+-- the key of the entry is one of these
+abbrev pub is_in_conflict : List Contested → Described → Bool
+is_in_conflict cs t = list_any (λ (c : Contested). is_eq (key_cmp c.key (bytes_of t.key))) cs
+
+-- the keys ascend
+abbrev pub AscendByKey : List Conflict → Type 0
+AscendByKey cs = Ascends key_cmp (map (λ (c : Contested). c.key) (map conflict_seen cs))
+
+-- the row of an entry, if these keys are in conflict, and the rows of these entries have their texts
+abbrev pub row_of : Ops → List Described → List Op → List Contested → List Described → Described → shown.Entry
+row_of s described os cs told t = entry_of s described os (same_text_in told t) (is_in_conflict cs t) t
 
 -- ---- conflicts
 
@@ -164,10 +188,11 @@ abbrev pub is_among : Bool → Ops → Described → Bool
 is_among gone s t = if gone then is_retired (standing_of (status s t.id)) else not (is_retired (standing_of (status s t.id)))
 
 -- the rows of the entries that are not retired, or of those that are
-abbrev pub rows_of : Bool → Ops → List Described → List Op → List Described → List shown.Entry
-rows_of gone s described os ts = map (entry_of s described os) (filter (is_among gone s) ts)
+abbrev pub rows_of : List Contested → List Described → Bool → Ops → List Described → List Op → List Described → List shown.Entry
+rows_of cs told gone s described os ts = map (row_of s described os cs told) (filter (is_among gone s) ts)
 
--- what is shown of a content, from the descriptions of its entries, its operations, conflicts, awaited ids and gaps
+-- what is shown of a content, from the descriptions of its entries, its operations, conflicts, awaited ids and gaps. The rows of retired
+-- entries link to the rows of those that are not, where these have the same text
 abbrev pub shown_of : Content → List ℕ → List Described → List Op → List Contested → List Id → List Gap → shown.Shown
 shown_of x title described os cs is gs = record {
   title = title;
@@ -175,8 +200,8 @@ shown_of x title described os cs is gs = record {
   conflicts = map (conflict_of described) cs;
   awaited = map printed is;
   gaps = map gap_of gs;
-  entries = rows_of false x.ops described os described;
-  retired = rows_of true x.ops described os described;
+  entries = rows_of cs [] false x.ops described os described;
+  retired = rows_of [] (filter (is_among false x.ops) described) true x.ops described os described;
 }
 
 -- what the page of a content with this title shows, with what is asked by these rules

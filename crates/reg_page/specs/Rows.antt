@@ -1,5 +1,5 @@
 -- What a row of the page shows of the register, and the order of rows.
-use Rattle.std.specs.Prelude.{◌≡◌, ℕ, true, List}
+use Rattle.std.specs.Prelude.{◌≡◌, ℕ, true, List, Contains, Option, Some, None}
 use Rattle.std.specs.declared.cmp.Ordering.{Ordering}
 use Rattle.std.specs.Ordering.{nat_cmp, ordering_then}
 use Rattle.std.specs.Cmp.Lexicographic.{slice_cmp}
@@ -48,3 +48,14 @@ pub record ShowsEntry (rules : List Rule) (s : Ops) (e : shown.Entry) : Type 0 w
 -- by the bytes of the authority, and then by the code
 abbrev pub entry_cmp : shown.Entry → shown.Entry → Ordering
 entry_cmp a b = ordering_then (slice_cmp nat_cmp a.authority b.authority) (code_cmp a.code b.code)
+
+-- the rows have one key and one text
+pub record HasSameText (e other : shown.Entry) : Type 0 where
+  pub authority : e.authority ≡ other.authority
+  pub code : e.code ≡ other.code
+  pub text : e.text ≡ other.text
+
+-- none of these rows has the text of the row; or one of them has it, and is the one with this id
+abbrev pub IsToldIn : List shown.Entry → shown.Entry → Option (List ℕ) → Type 0
+IsToldIn es e None = (other : shown.Entry) → Contains es other → HasSameText e other → ⊥
+IsToldIn es e (Some id) = (other : shown.Entry) × Contains es other × (other.id ≡ id) × HasSameText e other

@@ -15,8 +15,10 @@ pub enum Block<'a> {
     Pair(&'a Described, &'a Described),
     /// An awaited id.
     Awaited(&'a OpId),
-    /// The row of an entry.
-    Row(&'a Described),
+    /// The row of an entry, and whether it is in conflict.
+    Row(&'a Described, bool),
+    /// The same with a link to the row of another entry, which has its text.
+    Linked(&'a Described, &'a Described, bool),
     /// Everything after the rows.
     End,
 }

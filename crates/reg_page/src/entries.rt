@@ -1,30 +1,31 @@
 //! The rows of entries.
 
-ghost use Rattle.std.specs.Prelude.{◌≡◌, ℕ, map, OnOk};
+ghost use Rattle.std.specs.Prelude.{◌≡◌, ◌++◌, ℕ, map, OnOk};
 ghost use Rattle.std.specs.List.{flat_map};
 ghost use Rattle.std.specs.List.Sorted.{IsSortedByKey};
 ghost use Rattle.std.specs.Global.{Vec as Owned};
 ghost use Rattle.html_page.specs.Pieces.{Appends};
 ghost use Rattle.html_page.specs.Shown.{SupersededBy, RetiredBy};
-ghost use Rattle.html_page.specs.Templates.{operation, event, map_of, question, area, by, entry};
+ghost use Rattle.html_page.specs.Templates.{operation, event, map_of, entry_text, same_text, text_or_link, question, area, by, entry};
 ghost use Rattle.reg_op.specs.Text.{printed};
 ghost use Rattle.reg_op.specs.Status.{status};
 ghost use Rattle.reg_op.specs.Ids.{id_cmp};
 ghost use Rattle.reg_page.specs.Boxes.{box_seen};
 ghost use Rattle.reg_page.specs.Descriptions.{AscendById};
-ghost use Rattle.reg_page.specs.Page.{standing_of, link_to, subject, links_in, events_in, entry_of, named};
+ghost use Rattle.reg_page.specs.Page.{standing_of, link_to, subject, links_in, events_in, printed_if, entry_of, named};
 
 use crate::acts::acts_on;
 use crate::boxes::Edges;
-use crate::described::Described;
+use crate::described::{Described, DescribedSystem};
 use crate::kind::kind_word;
 use crate::links::push_link_to;
 use crate::names::read_for_id;
 use csv_table::offices::Name;
 use html_page::markup::{AFTER_BY, AFTER_ENTRY, AFTER_HISTORY, BY, RETIRED_BY, SUPERSEDED_BY};
 use html_page::{
-    Standing, push_area, push_entry_id, push_entry_start, push_entry_text, push_map, push_mark,
-    push_operation_id, push_operation_note, push_question, push_standing,
+    Standing, push_area, push_conflict_link, push_entry_id, push_entry_start, push_entry_text,
+    push_map, push_mark, push_operation_id, push_operation_note, push_question, push_same_text,
+    push_standing,
 };
 use reg_op::{Op, OpBody, OpId, Status};
 use reg_report::printed;
@@ -240,6 +241,46 @@ fn push_questions(page: &mut Vec<u8>, questions: &[Vec<u8>]) -> Result<(), Alloc
     Ok(())
 }
 
+fn push_text(page: &mut Vec<u8>, system: &DescribedSystem) -> Result<(), AllocError>
+    ensures { OnOk result (Appends page.old.items page.new.items (flat_map map_of (map box_seen system.now.boxes.items) ++ entry_text system.now.text.items ++ flat_map question (map (λ (q : Owned ℕ). q.items) system.now.questions.items))) }
+{
+    push_maps(page, &system.boxes)?;
+    push_entry_text(page, &system.text)?;
+    push_questions(page, &system.questions)?;
+    Ok(())
+}
+
+// Appends a link to the row of an entry with the same text.
+fn push_link_to_text(
+    alloc: Global,
+    page: &mut Vec<u8>,
+    names: &[Name],
+    same: OpId,
+) -> Result<(), AllocError>
+    ensures { OnOk result (Appends page.old.items page.new.items (same_text (printed same) (named names.now (printed same)))) }
+{
+    let id = printed(alloc, same)?;
+    let read = read_for_id(alloc, names, same)?;
+    push_same_text(page, &id, &read)?;
+    Ok(())
+}
+
+// Appends the boxes, the text and the questions of a reference system, or a link to the row that has them.
+fn push_text_or_link(
+    alloc: Global,
+    page: &mut Vec<u8>,
+    names: &[Name],
+    system: &DescribedSystem,
+    same: Option<OpId>,
+) -> Result<(), AllocError>
+    ensures { OnOk result (Appends page.old.items page.new.items (text_or_link (named names.now) (printed_if same) (map box_seen system.now.boxes.items) system.now.text.items (map (λ (q : Owned ℕ). q.items) system.now.questions.items))) }
+{
+    match same {
+        Some(id) => push_link_to_text(alloc, page, names, id),
+        None => push_text(page, system),
+    }
+}
+
 /// Appends the row of an entry.
 pub fn push_entry(
     alloc: Global,
@@ -249,10 +290,12 @@ pub fn push_entry(
     described: &[Described],
     acts: &[Op],
     one: &Described,
+    same: Option<OpId>,
+    contested: bool,
 ) -> Result<(), AllocError>
     requires ascend { AscendById described.now }
     requires sorted { IsSortedByKey subject id_cmp acts.now }
-    ensures { OnOk result (Appends page.old.items page.new.items (entry (named names.now) (entry_of register.now.ops described.now acts.now one.now))) }
+    ensures { OnOk result (Appends page.old.items page.new.items (entry (named names.now) (entry_of register.now.ops described.now acts.now same contested one.now))) }
 {
     let system = &one.system;
     let mine = acts_on(acts, one.id);
@@ -266,15 +309,19 @@ pub fn push_entry(
         key.code.as_bytes(),
         &system.name,
     )?;
-    push_maps(page, &system.boxes)?;
-    push_entry_text(page, &system.text)?;
-    push_questions(page, &system.questions)?;
+    push_text_or_link(alloc, page, names, system, same)?;
     push_entry_id(page, &read, &one.note)?;
     push_events(alloc, page, names, described, one.id, mine)?;
     push_mark(page, AFTER_HISTORY)?;
     push_areas(page, &system.areas)?;
     push_standing(page, kind_word(system.kind), standing_of(register, one.id))?;
     push_bys(alloc, page, names, described, one.id, mine)?;
+    push_conflict_link(
+        page,
+        key.authority.as_bytes(),
+        key.code.as_bytes(),
+        contested,
+    )?;
     push_mark(page, AFTER_ENTRY)?;
     Ok(())
 }

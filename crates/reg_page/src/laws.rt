@@ -1,6 +1,6 @@
 //! The laws of the page of a register. The functions do nothing: their contracts are the laws.
 
-ghost use Rattle.std.specs.Prelude.{◌≡◌, ◌<◌, ◌++◌, ℕ, All, List, [], map, Contains, Some, Ok, true};
+ghost use Rattle.std.specs.Prelude.{◌≡◌, ◌↔◌, ◌<◌, ◌++◌, ℕ, All, List, [], map, Contains, Some, None, Ok, true};
 ghost use Rattle.std.specs.List.Sorted.{IsPermutation, IsSorted};
 ghost use Rattle.html_page.specs.Pieces.{html};
 ghost use Rattle.html_page.specs.Places.{Content as BetweenTags, tags, past_all};
@@ -21,7 +21,7 @@ ghost use Rattle.reg_op.specs.Text.{printed};
 ghost use Rattle.reg_report.specs.Conflicts.{KeyBytes, HasKey, Stands, Contested, AreConflicts};
 ghost use Rattle.reg_page.specs.Descriptions.{entry_ids};
 ghost use Rattle.reg_page.specs.Codes.{is_number, number_of, code_cmp};
-ghost use Rattle.reg_page.specs.Rows.{ShowsEntry, entry_cmp};
+ghost use Rattle.reg_page.specs.Rows.{ShowsEntry, entry_cmp, IsToldIn};
 ghost use Rattle.reg_page.specs.Pairs.{paired, contested, IsPaired};
 ghost use Rattle.reg_page.specs.Page.{named, IsShown, IsPage, IsSide};
 ghost use Rattle.csv_table.specs.declared.offices.names.Name.{Name};
@@ -87,6 +87,19 @@ pub fn contested_entries_are_in_pairs()
 pub fn words_are_texts()
     ensures { (rules : List Rule) (title : List ℕ) (x : Content) (s : Shown) → IsShown rules title x s → (c : Conflict) → Contains s.conflicts c → (p : Pair) → Contains c.pairs p
         → IsSide s p.first × IsSide s p.second }
+{}
+
+/// Each row of an entry that is not retired has its text. The row of a retired entry has its text exactly if no such row of its key has
+/// the same one, and else a link to one that has it.
+pub fn each_text_is_in_a_row()
+    ensures own { (rules : List Rule) (title : List ℕ) (x : Content) (s : Shown) → IsShown rules title x s → All (λ (e : Entry). e.same_text_as ≡ None) s.entries }
+    ensures linked { (rules : List Rule) (title : List ℕ) (x : Content) (s : Shown) → IsShown rules title x s → All (λ (e : Entry). IsToldIn s.entries e e.same_text_as) s.retired }
+{}
+
+/// The row of an entry that is not retired says that it is in conflict exactly if its key is.
+pub fn rows_say_conflicts()
+    ensures { (rules : List Rule) (title : List ℕ) (x : Content) (s : Shown) → IsShown rules title x s
+        → All (λ (e : Entry). (e.in_conflict ≡ true) ↔ IsInConflict HasKey (rows x.ops) (record { authority = e.authority; code = e.code })) s.entries }
 {}
 
 /// Codes of digits are in the order of the numbers that they write.

@@ -20,6 +20,7 @@ mod missing;
 mod names;
 mod order;
 mod page;
+mod same;
 mod table;
 mod writing;
 

@@ -1,6 +1,6 @@
 //! The whole page.
 
-ghost use Rattle.std.specs.Prelude.{◌≡◌, ◌⊎◌, true, false, List, ℕ, map, None, IfOk, OnOk, IfErr};
+ghost use Rattle.std.specs.Prelude.{◌≡◌, ◌⊎◌, true, false, List, [], ℕ, filter, map, None, IfOk, OnOk, IfErr};
 ghost use Rattle.std.specs.List.Sorted.{IsSortedByKey};
 ghost use Rattle.byte_io.specs.Whole.{WritesAll};
 ghost use Rattle.html_page.specs.Pieces.{html, Appends};
@@ -13,7 +13,7 @@ ghost use Rattle.reg_engine.specs.declared.fault.CliFault.TheVariants.{Memory};
 ghost use Rattle.reg_page.specs.declared.described.Described.{Described as OneDescribed};
 ghost use Rattle.reg_page.specs.Blocks.{Setting, bytes_of, Lists, rows_with};
 ghost use Rattle.reg_page.specs.Descriptions.{AscendById, InOrder};
-ghost use Rattle.reg_page.specs.Page.{subject, conflict_of, figures_of, shown_of, named, IsPage};
+ghost use Rattle.reg_page.specs.Page.{subject, conflict_of, is_among, AscendByKey, figures_of, shown_of, named, IsPage};
 ghost use Rattle.reg_page.specs.Parts.{top, unsettled, table};
 ghost use Rattle.reg_page.specs.Writing.{IsStopped, IsUnwritten};
 
@@ -107,12 +107,14 @@ fn last_blocks<'a>(
     alloc: Global,
     register: &Register,
     described: &'a [Described],
+    conflicts: &[Conflict],
 ) -> Result<Vec<Block<'a>>, AllocError>
+    requires { AscendByKey conflicts.now }
     ensures { IfOk result (λ made. (rows : List OneDescribed) × InOrder described.now rows
-        × ((m : Setting) → bytes_of m made.items ≡ html (table m.named (rows_with m false register.now.ops rows) (rows_with m true register.now.ops rows)))) }
+        × ((m : Setting) → bytes_of m made.items ≡ html (table m.named (rows_with m (map conflict_seen conflicts.now) [] false register.now.ops rows) (rows_with m [] (filter (is_among false register.now.ops) rows) true register.now.ops rows)))) }
 {
     let mut blocks = Vec::new(alloc);
-    list_table(alloc, &mut blocks, register, described)?;
+    list_table(alloc, &mut blocks, register, described, conflicts)?;
     Ok(blocks)
 }
 
@@ -140,6 +142,7 @@ fn write_page<K: Sink>(
 ) -> Result<(), CliFault>
     requires ascend { AscendById described.now }
     requires sorted { IsSortedByKey subject id_cmp acts.now }
+    requires keys { AscendByKey conflicts.now }
     ensures written { OnOk result ((rows : List OneDescribed) × InOrder described.now rows
         × WritesAll (html (page_pieces (named names.now) (shown_of register.now title.now rows acts.now (map conflict_seen conflicts.now) awaited.now (gaps_between None runs.now)))) (K.state sink.old) (K.state sink.new)) }
     ensures fault { IfErr result (λ f. ((f ≡ Memory) × (K.state sink.new ≡ K.state sink.old)) ⊎ ((rows : List OneDescribed) × InOrder described.now rows
@@ -150,7 +153,7 @@ fn write_page<K: Sink>(
         Ok(blocks) => blocks,
         Err(_) => return Err(CliFault::Memory),
     };
-    let later = match last_blocks(alloc, register, described) {
+    let later = match last_blocks(alloc, register, described, conflicts) {
         Ok(later) => later,
         Err(_) => return Err(CliFault::Memory),
     };

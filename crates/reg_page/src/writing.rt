@@ -48,7 +48,20 @@ fn push_block(
         Block::Key(one) => push_key(page, one),
         Block::Pair(one, other) => push_sides(alloc, page, names, one, other),
         Block::Awaited(id) => push_awaited_id(alloc, page, names, id),
-        Block::Row(one) => push_entry(alloc, page, names, register, described, acts, one),
+        Block::Row(one, contested) => push_entry(
+            alloc, page, names, register, described, acts, one, None, *contested,
+        ),
+        Block::Linked(one, other, contested) => push_entry(
+            alloc,
+            page,
+            names,
+            register,
+            described,
+            acts,
+            one,
+            Some(other.id),
+            *contested,
+        ),
         Block::End => push_end(page),
     }
 }

@@ -7,7 +7,8 @@ use Rattle.html_page.specs.Templates.{entry}
 use Rattle.reg_page.specs.declared.described.Described.{Described}
 use Rattle.reg_page.specs.Blocks.{bytes_of}
 use Rattle.reg_page.specs.Descriptions.{at}
-use Rattle.reg_page.specs.Page.{entry_of}
+use Rattle.reg_report.specs.Contenders.{conflict_seen}
+use Rattle.reg_page.specs.Page.{entry_of, row_of}
 use Rattle.reg_page.proofs.BlockLemmas.{listed}
 use Rattle.reg_page.proofs.LoopLemmas.{as_others, one_more}
 use Rattle.reg_page.proofs.table.list_rows.Goals as goal
@@ -18,12 +19,16 @@ loop-i-init c = λ m. nothing (bytes_of m c.args.blocks.now.items)
 
 pub loop-i-preserved : goal.loop-i-preserved
 loop-i-preserved c = λ m.
-    one_more (entry m.named) (λ (t : Bor Described). entry_of m.ops m.described m.acts t.now) c.args.rows.now c.loop-i.i c.index-rows-i.result c.loop-i-test.true c.index-rows-i.is
-    (c.loop-i.invariant m) (listed m c.loop-i.blocks.items c.push.new.self.items _ c.in_ok-push.ensures.items)
+    let x = c.index-rows-i.result in
+    let row = row_of m.ops m.described m.acts (map conflict_seen c.args.conflicts.now) (at c.args.told.now) in
+    one_more (entry m.named) (λ (t : Bor Described). row t.now) c.args.rows.now c.loop-i.i x c.loop-i-test.true c.index-rows-i.is (c.loop-i.invariant m)
+    (as_others _ (entry m.named (row x.now))
+    (c.block_of.ensures m ∙ (λ j. entry m.named (entry_of m.ops m.described m.acts (c.same_text-same.ensures j) (c.is_in_conflict-contested.ensures j) x.now)))
+    (listed m c.loop-i.blocks.items c.push.new.self.items _ c.in_ok-push.ensures.items))
 
 pub returns : goal.returns
 returns c = λ m.
-    let row = entry_of m.ops m.described m.acts in
+    let row = row_of m.ops m.described m.acts (map conflict_seen c.args.conflicts.now) (at c.args.told.now) in
     let rows = c.args.rows.now in
     let each = λ (t : Bor Described). row t.now in
     as_others (flat_map (entry m.named) (map each (take c.loop-i.i rows))) (flat_map (entry m.named) (map row (at rows)))
