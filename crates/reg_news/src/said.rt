@@ -239,7 +239,7 @@ fn write_codes<W: fmt::Write>(
     separate(f, parts)?;
     let words = if count == 1 { one } else { many };
     write!(f, "{count} {words} (")?;
-    let mut named = 0;
+    let mut named: usize = 0;
     let mut rest = codes;
     while let Some((code, others)) = rest.split_first() {
         rest = others;
@@ -253,7 +253,7 @@ fn write_codes<W: fmt::Write>(
             if named > 0 {
                 f.write_str(", ")?;
             }
-            named += 1;
+            named = named.saturating_add(1);
         }
         write_code(f, code, others)?;
     }
