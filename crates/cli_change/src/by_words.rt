@@ -1,4 +1,5 @@
 //! Changes a register by a command on the entries that words name, which has its effects once, also if it is run again after a stop.
+use crate::changing::{Says, change_and_say};
 use crate::offices::Desk;
 use byte_io::Writing;
 use byte_out::Place;
@@ -6,8 +7,7 @@ use clap::ArgMatches;
 use cli_open::{OpenOffice, RegisterTarget, open_target, word};
 use reg_commands::ByWords;
 use reg_commands::again::{EffectsOf, OnceOf};
-use reg_engine::{CliFault, run_change};
-use std::alloc::Global;
+use reg_engine::CliFault;
 use std::fs::File;
 use std::io::{self, Write};
 
@@ -26,7 +26,8 @@ pub fn changed_by_words<Q: Place, C: EffectsOf>(
     answer
 }
 
-// Changes the register as the office, and prints the command's lines, unless `--quiet` is given.
+// Changes the register as the office, and prints the command's lines, unless `--quiet` is given. Where sentences are on, the last
+// one says which codes stand otherwise.
 fn change_in<Q: Place, P: Place + Drop, C: EffectsOf>(
     rt: &HostRuntime,
     matches: &ArgMatches<'_>,
@@ -34,16 +35,18 @@ fn change_in<Q: Place, P: Place + Drop, C: EffectsOf>(
     target: RegisterTarget<File, P>,
     command: &ByWords<'_, C>,
 ) -> Result<(), CliFault> {
+    let says = Says::codes(matches);
     if matches.get_flag("quiet") {
         let mut sink = Writing::new(io::sink());
-        return change_to(rt.alloc(), desk, target, command, &mut sink);
+        return change_to(rt, says, desk, target, command, &mut sink);
     }
     let mut sink = Writing::new(io::writer(rt));
-    change_to(rt.alloc(), desk, target, command, &mut sink)
+    change_to(rt, says, desk, target, command, &mut sink)
 }
 
 fn change_to<Q: Place, P: Place + Drop, C: EffectsOf, W: Write>(
-    alloc: Global,
+    rt: &HostRuntime,
+    says: Says,
     desk: &mut Desk<Q>,
     target: RegisterTarget<File, P>,
     command: &ByWords<'_, C>,
@@ -51,8 +54,8 @@ fn change_to<Q: Place, P: Place + Drop, C: EffectsOf, W: Write>(
 ) -> Result<(), CliFault> {
     let mut target = target;
     let answer = match &mut desk.file {
-        Some(office) => change_guarded(alloc, &mut target, office, command, sink),
-        None => change_plainly(alloc, &mut target, command, sink),
+        Some(office) => change_guarded(rt, says, &mut target, office, command, sink),
+        None => change_plainly(rt, says, &mut target, command, sink),
     };
     drop(target);
     answer
@@ -60,7 +63,8 @@ fn change_to<Q: Place, P: Place + Drop, C: EffectsOf, W: Write>(
 
 // As an office with an office file. If the office has made this before, and it did not arrive, nothing is made.
 fn change_guarded<P: Place, Q: Place, C: EffectsOf, W: Write>(
-    alloc: Global,
+    rt: &HostRuntime,
+    says: Says,
     target: &mut RegisterTarget<File, P>,
     office: &mut OpenOffice<Q>,
     command: &ByWords<'_, C>,
@@ -78,11 +82,12 @@ fn change_guarded<P: Place, Q: Place, C: EffectsOf, W: Write>(
         command: &once,
     };
     let mut store = target.guarded(file, place);
-    run_change(alloc, &mut store, &mut by_words, sink)
+    change_and_say(rt, says, &mut store, &mut by_words, sink)
 }
 
 fn change_plainly<P: Place, C: EffectsOf, W: Write>(
-    alloc: Global,
+    rt: &HostRuntime,
+    says: Says,
     target: &mut RegisterTarget<File, P>,
     command: &ByWords<'_, C>,
     sink: &mut Writing<W>,
@@ -92,5 +97,5 @@ fn change_plainly<P: Place, C: EffectsOf, W: Write>(
         newer: command.newer,
         command: command.command,
     };
-    run_change(alloc, &mut target.plain(), &mut by_words, sink)
+    change_and_say(rt, says, &mut target.plain(), &mut by_words, sink)
 }

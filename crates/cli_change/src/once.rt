@@ -1,12 +1,12 @@
 //! Changes a register by a command that has its effects once, also if it is run again after a stop.
+use crate::changing::{Says, change_and_say};
 use crate::offices::Desk;
 use byte_io::Writing;
 use byte_out::Place;
 use clap::ArgMatches;
 use cli_open::{OpenOffice, RegisterTarget, open_target, word};
 use reg_commands::again::{Effects, Once};
-use reg_engine::{CliFault, run_change};
-use std::alloc::Global;
+use reg_engine::CliFault;
 use std::fs::File;
 use std::io::{self, Write};
 
@@ -25,7 +25,8 @@ pub fn changed_once<Q: Place, C: Effects + Drop>(
     answer
 }
 
-/// Changes the register as the office, and prints the command's lines, unless `--quiet` is given.
+/// Changes the register as the office, and prints the command's lines, unless `--quiet` is given. Where sentences are on, the
+/// last one says which codes stand otherwise.
 pub fn change_once<Q: Place, P: Place + Drop, C: Effects + Drop>(
     rt: &HostRuntime,
     matches: &ArgMatches<'_>,
@@ -33,16 +34,18 @@ pub fn change_once<Q: Place, P: Place + Drop, C: Effects + Drop>(
     target: RegisterTarget<File, P>,
     command: C,
 ) -> Result<(), CliFault> {
+    let says = Says::codes(matches);
     if matches.get_flag("quiet") {
         let mut sink = Writing::new(io::sink());
-        return change_to(rt.alloc(), desk, target, command, &mut sink);
+        return change_to(rt, says, desk, target, command, &mut sink);
     }
     let mut sink = Writing::new(io::writer(rt));
-    change_to(rt.alloc(), desk, target, command, &mut sink)
+    change_to(rt, says, desk, target, command, &mut sink)
 }
 
 fn change_to<Q: Place, P: Place + Drop, C: Effects + Drop, W: Write>(
-    alloc: Global,
+    rt: &HostRuntime,
+    says: Says,
     desk: &mut Desk<Q>,
     target: RegisterTarget<File, P>,
     command: C,
@@ -50,8 +53,8 @@ fn change_to<Q: Place, P: Place + Drop, C: Effects + Drop, W: Write>(
 ) -> Result<(), CliFault> {
     let mut target = target;
     let answer = match &mut desk.file {
-        Some(office) => change_guarded(alloc, &mut target, office, command, sink),
-        None => change_plainly(alloc, &mut target, command, sink),
+        Some(office) => change_guarded(rt, says, &mut target, office, command, sink),
+        None => change_plainly(rt, says, &mut target, command, sink),
     };
     drop(target);
     answer
@@ -59,7 +62,8 @@ fn change_to<Q: Place, P: Place + Drop, C: Effects + Drop, W: Write>(
 
 // As an office with an office file. If the office has made this before, and it did not arrive, nothing is made.
 fn change_guarded<P: Place, Q: Place, C: Effects + Drop, W: Write>(
-    alloc: Global,
+    rt: &HostRuntime,
+    says: Says,
     target: &mut RegisterTarget<File, P>,
     office: &mut OpenOffice<Q>,
     command: C,
@@ -72,15 +76,16 @@ fn change_guarded<P: Place, Q: Place, C: Effects + Drop, W: Write>(
         office: file,
     };
     let mut store = target.guarded(file, place);
-    run_change(alloc, &mut store, &mut once, sink)
+    change_and_say(rt, says, &mut store, &mut once, sink)
 }
 
 fn change_plainly<P: Place, C: Effects + Drop, W: Write>(
-    alloc: Global,
+    rt: &HostRuntime,
+    says: Says,
     target: &mut RegisterTarget<File, P>,
     command: C,
     sink: &mut Writing<W>,
 ) -> Result<(), CliFault> {
     let mut command = command;
-    run_change(alloc, &mut target.plain(), &mut command, sink)
+    change_and_say(rt, says, &mut target.plain(), &mut command, sink)
 }

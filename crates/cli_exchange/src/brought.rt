@@ -1,11 +1,14 @@
 //! Says what a command brought, and what no row shows of it.
 use crate::undone::say_undone;
 use cli_faults::{CommandFiles, say};
+use crs_value::Key;
 use reg_news::gained::{hidden_in, revived_in};
-use reg_news::news_of;
+use reg_news::{News, news_of};
 use reg_op::OpId;
 use reg_state::Register;
 use reg_take::merge::Merged;
+use reg_tree::undone::{SayingText, undone_in};
+use std::cmp::Ordering;
 
 /// The register before and after a take. Where offices are named, the entries that are retired in the files.
 #[derive(Drop)]
@@ -23,11 +26,10 @@ pub fn say_gained(rt: &HostRuntime, gained: &Gained, named: &Option<CommandFiles
     let Some(named) = named else {
         return;
     };
-    if let Ok(news) = news_of(rt.alloc(), &gained.before, &gained.after) {
-        say(rt, &news, named);
-    }
-    if let Some(inputs) = &gained.inputs {
-        say_undone(rt, inputs, &gained.after, named);
+    let news = news_of(rt.alloc(), &gained.before, &gained.after).ok();
+    match &gained.inputs {
+        Some(inputs) => say_joined(rt, news, inputs, &gained.after, named),
+        None => say_news(rt, &news, named),
     }
     if let Ok(hidden) = hidden_in(rt.alloc(), &gained.before, &gained.after) {
         say(rt, &hidden, named);
@@ -42,13 +44,55 @@ pub fn say_gained(rt: &HostRuntime, gained: &Gained, named: &Option<CommandFiles
 
 /// Says what a merge brought to the first register, and what it undid, if there is memory for the sentences.
 pub fn say_merged(rt: &HostRuntime, merged: &Merged, named: &CommandFiles<'_>) {
-    if let Ok(news) = merged.news(rt.alloc()) {
-        say(rt, &news, named);
-    }
+    let news = merged.news(rt.alloc()).ok();
     if merged.pieces.is_empty() {
-        return say_undone(rt, &merged.registers, &merged.joined, named);
+        return say_joined(rt, news, &merged.registers, &merged.joined, named);
     }
-    if let Ok(inputs) = merged.inputs(rt.alloc()) {
-        say_undone(rt, &inputs, &merged.joined, named);
+    match merged.inputs(rt.alloc()) {
+        Ok(inputs) => say_joined(rt, news, &inputs, &merged.joined, named),
+        Err(_) => say_news(rt, &news, named),
+    }
+}
+
+// Says what is new, and what the join undid. A code that the second sentence names is not in use again in the first one.
+fn say_joined(
+    rt: &HostRuntime,
+    news: Option<News>,
+    inputs: &[Register],
+    join: &Register,
+    named: &CommandFiles<'_>,
+) {
+    let Ok(sayings) = undone_in(rt.alloc(), inputs, join) else {
+        return say_news(rt, &news, named);
+    };
+    let mut news = news;
+    if let Some(news) = &mut news {
+        news.codes
+            .retain(|code| code.superseded || !is_undone(&sayings, &code.key));
+    }
+    say_news(rt, &news, named);
+    say_undone(rt, &sayings, named);
+}
+
+// Whether one of the sayings, which ascend by key, is about the key.
+fn is_undone(sayings: &[SayingText<'_>], key: &Key) -> bool {
+    let at = sayings.partition_point(|saying| key_order(saying, key).is_lt());
+    match sayings.get(at) {
+        Some(saying) => key_order(saying, key).is_eq(),
+        None => false,
+    }
+}
+
+fn key_order(saying: &SayingText<'_>, key: &Key) -> Ordering {
+    saying
+        .key
+        .authority
+        .cmp(key.authority.as_bytes())
+        .then(saying.key.code.cmp(key.code.as_bytes()))
+}
+
+fn say_news(rt: &HostRuntime, news: &Option<News>, named: &CommandFiles<'_>) {
+    if let Some(news) = news {
+        say(rt, news, named);
     }
 }

@@ -1,6 +1,7 @@
 //! `take` without files, which brings what an office made to its register.
 use crate::asked::take_options;
 use crate::brought::Gained;
+use crate::undone::UnlessListed;
 use byte_io::Writing;
 use byte_out::Place;
 use clap::ArgMatches;
@@ -16,16 +17,16 @@ use reg_take::own::{CatchUp, Catching, WouldCatchUp, caught_up};
 use std::alloc::Global;
 use std::io::{self, Write};
 
-/// Joins all that the office of the office file at this path made to the register, and prints what changed. Returns the register
-/// before and after, where sentences are on and there was memory for copies. The offices that `--from` names are looked at, and have no
-/// files here.
+/// Joins all that the office of the office file at this path made to the register, and prints what changed, or nothing with `--undone`.
+/// Returns the register before and after, where sentences are on and there was memory for copies. The offices that `--from` names are
+/// looked at, and have no files here.
 pub fn catch_up(
     rt: &HostRuntime,
     matches: &ArgMatches<'_>,
     path: &str,
 ) -> Result<Option<Gained>, CliFault> {
     let mut office = open_office(rt, rt.alloc(), path)?;
-    let mut sink = Rows::sink(rt, matches, io::writer(rt));
+    let mut sink = Rows::sink(rt, matches, UnlessListed::new(matches, io::writer(rt)));
     let answer = if matches.get_flag("dry-run") {
         try_to(rt, matches, &office.file, &mut sink)
     } else {

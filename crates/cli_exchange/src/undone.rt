@@ -65,16 +65,9 @@ struct UnlistedSaid<'a> {
     sayings: &'a [SayingText<'a>],
 }
 
-/// Says what the join of the inputs undid, if there is memory for it.
-pub fn say_undone(
-    rt: &HostRuntime,
-    inputs: &[Register],
-    join: &Register,
-    named: &CommandFiles<'_>,
-) {
-    if let Ok(sayings) = undone_in(rt.alloc(), inputs, join) {
-        say(rt, &UndoneSaid { sayings: &sayings }, named);
-    }
+/// Says what a join undid.
+pub fn say_undone(rt: &HostRuntime, sayings: &[SayingText<'_>], named: &CommandFiles<'_>) {
+    say(rt, &UndoneSaid { sayings }, named);
 }
 
 /// Prints a line for each key that the join of the inputs undid: the list that `supersede --from` takes, and then the withdrawn ones.
@@ -186,7 +179,7 @@ impl fmt::Display for UndoneSaid<'_> {
     }
 }
 
-// Writes what is said of the first keys.
+// Writes the first keys, each with those that supersede it, or that it is withdrawn.
 fn write_codes<W: fmt::Write>(
     f: &mut fmt::Formatter<W>,
     sayings: &[SayingText<'_>],

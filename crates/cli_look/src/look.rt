@@ -21,6 +21,7 @@ use reg_desk::{
 };
 use reg_engine::{CliFault, ShelfProblem};
 use reg_news::gained::hidden_in;
+use reg_news::{OfCodes, news_of};
 use reg_query::Query;
 use reg_texts::Texts;
 use std::alloc::{AllocError, Global};
@@ -256,12 +257,19 @@ fn outcome_of(
     }
 }
 
-/// Says what no row shows of the newer register, and what cannot be undone of it, if sentences are asked for and there is memory for
-/// them.
+/// Says how codes stand otherwise in the newer register, what no row shows of it, and what cannot be undone of it, if sentences are
+/// asked for and there is memory for them.
 pub fn say_hidden(rt: &HostRuntime, found: &Comparison, named: &Option<CommandFiles<'_>>) {
     let Some(named) = named else {
         return;
     };
+    if let Ok(news) = news_of(rt.alloc(), &found.before, &found.after) {
+        let codes = OfCodes {
+            news: &news,
+            superseded: true,
+        };
+        say(rt, &codes, named);
+    }
     if let Ok(hidden) = hidden_in(rt.alloc(), &found.before, &found.after) {
         say(rt, &hidden, named);
     }
