@@ -10,3 +10,4 @@ pub mod LineLemmas
 pub mod DrawingLemmas
 mod EndLemmas
 mod HeldLemmas
+pub mod InTurn

@@ -1,5 +1,5 @@
 -- Features of GeoJSON.
-use Rattle.std.specs.Prelude.{ℕ, ◌++◌, List, [], ◌∷◌, Option, Some, None}
+use Rattle.std.specs.Prelude.{ℕ, ◌++◌, Bool, true, false, List, [], ◌∷◌, Option, Some, None}
 use Rattle.std.specs.List.{flat_map}
 use Rattle.crs_part.specs.declared.text.Text.{Text}
 use Rattle.crs_part.specs.declared.usages.BoundingBox.{BoundingBox}
@@ -45,6 +45,15 @@ after_comma f = 44 ∷ f
 abbrev pub listed : List (List ℕ) → List ℕ
 listed [] = []
 listed (f ∷ fs) = f ++ flat_map after_comma fs
+
+-- the same behind other features, or as the first ones
+abbrev pub listed_behind : Bool → List (List ℕ) → List ℕ
+listed_behind true fs = flat_map after_comma fs
+listed_behind false fs = listed fs
+
+abbrev pub are_some : List (List ℕ) → Bool
+are_some [] = false
+are_some (f ∷ fs) = true
 
 abbrev pub collection : List (List ℕ) → List ℕ
 collection fs = COLLECTION_START.now ++ listed fs ++ COLLECTION_END.now

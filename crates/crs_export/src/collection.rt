@@ -1,12 +1,11 @@
-//! Collections of features.
+//! Features in a collection.
 
-ghost use Rattle.std.specs.Prelude.{◌≡◌, ◌++◌, ℕ, map, IfOk, OnOk};
+ghost use Rattle.std.specs.Prelude.{◌≡◌, ◌++◌, ℕ, map, OnOk};
 ghost use Rattle.std.specs.List.{flat_map};
 ghost use Rattle.std.specs.Global.{Vec};
-ghost use Rattle.crs_export.specs.Features.{after_comma, listed, collection};
+ghost use Rattle.crs_export.specs.Features.{after_comma, listed_behind};
 
-use crate::markup::{COLLECTION_END, COLLECTION_START};
-use std::alloc::{AllocError, Global};
+use std::alloc::AllocError;
 
 fn push_after(text: &mut Vec<u8>, feature: &[u8]) -> Result<(), AllocError>
     ensures { OnOk result (text.new.items ≡ text.old.items ++ after_comma feature.now) }
@@ -27,24 +26,17 @@ fn push_others(text: &mut Vec<u8>, features: &[Vec<u8>]) -> Result<(), AllocErro
     Ok(())
 }
 
-fn push_listed(text: &mut Vec<u8>, features: &[Vec<u8>]) -> Result<(), AllocError>
-    ensures { OnOk result (text.new.items ≡ text.old.items ++ listed (map (λ (f : Vec ℕ). f.items) features.now)) }
+/// Appends features of a collection, with commas: behind others, or as its first ones.
+pub fn push_listed(text: &mut Vec<u8>, behind: bool, features: &[Vec<u8>]) -> Result<(), AllocError>
+    ensures { OnOk result (text.new.items ≡ text.old.items ++ listed_behind behind (map (λ (f : Vec ℕ). f.items) features.now)) }
 {
+    if behind {
+        return push_others(text, features);
+    }
     let Some((first, others)) = features.split_first() else {
         return Ok(());
     };
     text.extend_from_slice(first)?;
     push_others(text, others)?;
     Ok(())
-}
-
-/// A collection of these features.
-pub fn collection_text(alloc: Global, features: &[Vec<u8>]) -> Result<Vec<u8>, AllocError>
-    ensures { IfOk result (λ text. text.items ≡ collection (map (λ (f : Vec ℕ). f.items) features.now)) }
-{
-    let mut text = Vec::new(alloc);
-    text.extend_from_slice(COLLECTION_START)?;
-    push_listed(&mut text, features)?;
-    text.extend_from_slice(COLLECTION_END)?;
-    Ok(text)
 }

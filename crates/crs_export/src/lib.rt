@@ -25,14 +25,15 @@ mod title;
 mod verdict;
 
 pub use code::number_of;
-pub use collection::collection_text;
+pub use collection::push_listed;
 pub use dot::{push_caption, push_edge, push_node, push_rivals};
 pub use dot_quotes::push_dot;
 pub use feature::push_features;
 pub use filed::{EntryText, Filed};
+pub use held::{HeldText, RowPlace};
 pub use json_quotes::push_json;
 pub use rows::rows_of;
-pub use sql::sql_text;
+pub use sql::push_entry;
 pub use sql_quotes::push_sql;
 pub use table::{Table, table_of};
 pub use title::Title;

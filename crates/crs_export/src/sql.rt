@@ -1,15 +1,18 @@
 //! Statements that put reference systems into PROJ's tables.
 
-ghost use Rattle.std.specs.Prelude.{◌≡◌, ◌++◌, ◌∷◌, [], map, IfOk, OnOk};
+ghost use Rattle.std.specs.Prelude.{◌≡◌, ◌++◌, ◌∷◌, [], List, map, OnOk};
 ghost use Rattle.crs_export.specs.declared.markup.TheConstants as markup;
-ghost use Rattle.crs_export.specs.Sql.{row, insertion, on_line, comment, inserted_as, line_as, lines, sql};
+ghost use Rattle.crs_export.specs.declared.filed.Filed.{Filed as OneFiled};
+ghost use Rattle.crs_export.specs.Held.{Holds};
+ghost use Rattle.crs_export.specs.Sql.{row, insertion, on_line, comment, inserted_as, line_as, text_at, judged};
 
 use crate::filed::Filed;
-use crate::markup::{COMMA, LEFT_OUT, ROW_END, SQL_END, SQL_START};
+use crate::held::{HeldText, RowPlace};
+use crate::markup::{COMMA, LEFT_OUT, ROW_END};
 use crate::row_text::{push_field, start_of, type_of};
 use crate::table::Table;
 use crate::verdict::{Verdict, judge};
-use std::alloc::{AllocError, Global};
+use std::alloc::AllocError;
 use std::collections::BTreeMap;
 
 // Appends a row between the start of a statement and the type of the row.
@@ -81,27 +84,17 @@ fn push_line(text: &mut Vec<u8>, filed: &Filed<'_>, as_is: Verdict) -> Result<()
     }
 }
 
-fn push_lines(alloc: Global, text: &mut Vec<u8>, filed: &[Filed<'_>]) -> Result<(), AllocError>
-    ensures { OnOk result (text.new.items ≡ text.old.items ++ lines [] filed.now) }
+/// Appends the statements of an entry after others, whose texts are held in their places. If an earlier one has its place, it appends
+/// nothing or, if the texts differ, a comment; also a comment if the tables cannot hold it. The text of an inserted entry is held, too.
+pub fn push_entry<'a>(
+    held: &mut BTreeMap<RowPlace<'a>, HeldText<'a>>,
+    text: &mut Vec<u8>,
+    filed: &Filed<'a>,
+) -> Result<(), AllocError>
+    ensures { (before : List OneFiled) → Holds held.old (λ p. text_at p before)
+        → OnOk result ((text.new.items ≡ text.old.items ++ line_as filed.now (judged before filed.now)) × Holds held.new (λ p. text_at p (before ++ filed.now ∷ []))) }
 {
-    let mut held = BTreeMap::new(alloc);
-    let mut index = 0;
-    while index < filed.len() {
-        let one = &filed[index];
-        let verdict = judge(&mut held, one)?;
-        push_line(text, one, verdict)?;
-        index += 1;
-    }
+    let verdict = judge(held, filed)?;
+    push_line(text, filed, verdict)?;
     Ok(())
-}
-
-/// The statements that insert these entries, between `BEGIN` and `COMMIT`.
-pub fn sql_text(alloc: Global, filed: &[Filed<'_>]) -> Result<Vec<u8>, AllocError>
-    ensures { IfOk result (λ text. text.items ≡ sql filed.now) }
-{
-    let mut text = Vec::new(alloc);
-    text.extend_from_slice(SQL_START)?;
-    push_lines(alloc, &mut text, filed)?;
-    text.extend_from_slice(SQL_END)?;
-    Ok(text)
 }

@@ -29,3 +29,8 @@ module _ {Y : Type 0} (Gives : Row → List Y → Type 0) where
 
   pub gathers_all : (all rest : List Row) (made : List Y) → rest ≡ [] → Gathers all rest made → Each Gives all made
   gathers_all all rest made e g = subst (λ l. Each Gives all l) (append-nil made) (g [] (subst (λ l. Each Gives l []) (sym e) refl))
+
+  -- what one more row gives
+  pub each_more : (rs : List Row) (r : Row) (ys mine : List Y) → Each Gives rs ys → Gives r mine → Each Gives (rs ++ r ∷ []) (ys ++ mine)
+  each_more [] r ys mine none gives = (mine, [], gives, refl, ap (λ l. l ++ mine) none ∙ sym (append-nil mine))
+  each_more (q ∷ rs) r ys mine (one, later, g, rest, is) gives = (one, later ++ mine, g, each_more rs r later mine rest gives, ap (λ l. l ++ mine) is ∙ append_assoc one later mine)

@@ -12,3 +12,5 @@ mod DrawnLemmas
 mod ReadLemmas
 mod SheetLemmas
 mod LabelLemmas
+mod WrittenLemmas
+mod BeginLemmas

@@ -1,11 +1,12 @@
 -- Rows as a collection of features.
-use Rattle.std.specs.Prelude.{◌≡◌, ℕ, List, [], ◌∷◌}
+use Rattle.std.specs.Prelude.{◌≡◌, ◌++◌, ℕ, List, [], ◌∷◌}
 use Rattle.crs_value.specs.declared.crs.Crs.{Crs}
 use Rattle.crs_value.specs.Usages.{usages_of}
 use Rattle.wkt_crs.specs.Definition.{IsCrsOf}
 use Rattle.reg_op.specs.Rows.{Row}
 use Rattle.crs_export.specs.declared.title.Title.{Title}
-use Rattle.crs_export.specs.Features.{features, collection}
+use Rattle.crs_export.specs.Features.{features, listed, collection}
+use Rattle.crs_export.specs.declared.markup.TheConstants.{COLLECTION_START}
 use Rattle.crs_export.specs.Document.{Described}
 use Rattle.reg_export.specs.Titles.{IsTitle, Each}
 
@@ -20,6 +21,13 @@ pub record AreFeaturesOf (r : Row) (fs : List (List ℕ)) : Type 0 where
 -- the collection of the features of some rows
 abbrev pub IsGeojson : List Row → List ℕ → Type 0
 IsGeojson rs text = (fs : List (List ℕ)) × Each AreFeaturesOf rs fs × (text ≡ collection fs)
+
+-- its beginning: so far the features of some rows stand behind these bytes
+abbrev pub BeginsWith : List ℕ → List Row → List ℕ → Type 0
+BeginsWith start rs text = (fs : List (List ℕ)) × Each AreFeaturesOf rs fs × (text ≡ start ++ listed fs)
+
+abbrev pub BeginsGeojson : List Row → List ℕ → Type 0
+BeginsGeojson rs text = BeginsWith COLLECTION_START.now rs text
 
 -- ---- as other programs read them
 

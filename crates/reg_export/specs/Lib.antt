@@ -9,6 +9,7 @@ pub mod Twins
 pub mod IntoFiles
 pub mod Into
 pub mod Titles
+pub mod Written
 pub mod Geojson
 pub mod ProjSql
 pub mod Graph

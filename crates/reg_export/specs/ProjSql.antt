@@ -1,5 +1,5 @@
 -- Rows as rows of PROJ's tables.
-use Rattle.std.specs.Prelude.{◌≡◌, ◌∷◌, [], ℕ, Bool, true, false, not, ◌&&◌, List, Option, codes}
+use Rattle.std.specs.Prelude.{◌≡◌, ◌∷◌, ◌++◌, [], ℕ, Bool, true, false, not, ◌&&◌, List, Option, codes}
 use Rattle.crs_part.specs.Words.{same_word}
 use Rattle.crs_part.specs.declared.text.Text.{Text}
 use Rattle.crs_value.specs.declared.crs.Crs.{Crs}
@@ -12,7 +12,8 @@ use Rattle.crs_export.specs.declared.table.Table.{Table}
 use Rattle.crs_export.specs.declared.title.Title.{Title}
 use Rattle.crs_export.specs.Codes.{IsNumberOf}
 use Rattle.crs_export.specs.Rows.{rows_of}
-use Rattle.crs_export.specs.Sql.{sql}
+use Rattle.crs_export.specs.Sql.{lines, sql}
+use Rattle.crs_export.specs.declared.markup.TheConstants.{SQL_START}
 use Rattle.crs_export.specs.Tables.{table_of}
 use Rattle.reg_export.specs.Titles.{IsTitle, Each}
 
@@ -50,3 +51,10 @@ FilesAs all r fs = (k : KeyBytes) × HasKey r.definition k × FilesUnless (passe
 -- the statements for some rows
 abbrev pub IsSql : Bool → List Row → List ℕ → Type 0
 IsSql all rs text = (fs : List Filed) × Each (FilesAs all) rs fs × (text ≡ sql fs)
+
+-- their beginning: so far the statements of some rows stand behind these bytes
+abbrev pub BeginsWith : List ℕ → Bool → List Row → List ℕ → Type 0
+BeginsWith start all rs text = (fs : List Filed) × Each (FilesAs all) rs fs × (text ≡ start ++ lines [] fs)
+
+abbrev pub BeginsSql : Bool → List Row → List ℕ → Type 0
+BeginsSql all rs text = BeginsWith SQL_START.now all rs text

@@ -6,7 +6,7 @@ ghost use Rattle.crs_export.specs.Graphs.{edge};
 ghost use Rattle.reg_export.specs.Graph.{label_for, label_of, edge_of};
 
 use crs_export::{push_caption, push_edge};
-use csv_table::offices::{Name, named};
+use csv_table::offices::{Names, named_in};
 use reg_op::OpId;
 use reg_report::{is_entered, printed};
 use reg_state::Register;
@@ -27,7 +27,7 @@ fn push_label_for(text: &mut Vec<u8>, id: &[u8], read: &[u8]) -> Result<(), Allo
 fn push_label(
     alloc: Global,
     text: &mut Vec<u8>,
-    names: &[Name],
+    names: &Names<'_>,
     register: &Register,
     id: OpId,
 ) -> Result<(), AllocError>
@@ -37,7 +37,7 @@ fn push_label(
         return Ok(());
     }
     let own = printed(alloc, id)?;
-    let read = named(alloc, false, names, &own)?;
+    let read = named_in(alloc, false, names, &own)?;
     push_label_for(text, &own, &read)?;
     Ok(())
 }
@@ -55,7 +55,7 @@ fn push_ids(alloc: Global, text: &mut Vec<u8>, old: OpId, newer: OpId) -> Result
 pub fn push_edge_of(
     alloc: Global,
     text: &mut Vec<u8>,
-    names: &[Name],
+    names: &Names<'_>,
     register: &Register,
     old: OpId,
     newer: OpId,

@@ -1,19 +1,21 @@
 //! The commands `export --geojson`, `export --proj-sql`, `export --csv` and `graph`.
 
-ghost use Rattle.std.specs.Prelude.{map, Option, IfOk, IfErr};
-ghost use Rattle.reg_op.specs.Ids.{Id};
+ghost use Rattle.std.specs.Prelude.{◌≡◌, ◌⊎◌, ℕ, List, map, IfOk, OnOk, IfErr};
+ghost use Rattle.byte_io.specs.Whole.{WritesAll};
 ghost use Rattle.reg_report.specs.Seen.{row_seen};
-ghost use Rattle.reg_engine.specs.Store.{IsPrinted, IsUnprinted};
+ghost use Rattle.reg_engine.specs.Store.{IsPrinted};
+ghost use Rattle.reg_texts.specs.KeySheet.{IsKeySheet};
+ghost use Rattle.reg_export.specs.declared.formats.Format.TheVariants as format;
 ghost use Rattle.reg_export.specs.Stopped.{IsNoText, CannotHand};
 ghost use Rattle.reg_export.specs.Kept.{row_at};
-ghost use Rattle.reg_export.specs.Handed.{IsTextIn, IsHanded, HandsText};
+ghost use Rattle.reg_export.specs.Handed.{IsTextIn, IsHanded, HandsText, StopsIn, IsHalfHanded, StopsHanding, IsUnhanded};
 
 use crate::choice::{Choice, found_for};
 use crate::chosen::uncontested;
-use crate::geojson::geojson_text;
+use crate::geojson::write_geojson;
 use crate::graph::graph_text;
 use crate::keep::pass;
-use crate::proj_sql::proj_sql_text;
+use crate::proj_sql::write_proj_sql;
 use byte_io::{Sink, write_all};
 use csv_table::offices::Name;
 use reg_engine::{CliFault, OutFault, Print, Store};
@@ -34,39 +36,66 @@ pub enum Format {
     Csv,
 }
 
-// What is handed on.
-#[derive(Drop)]
-struct HandedText {
-    text: Vec<u8>,
-    // The least entry of the least key with two texts, if such keys were left out.
-    taken: Option<OpId>,
+// Writes the sheet of the keys of these rows.
+fn write_sheet<K: Sink>(
+    alloc: Global,
+    register: &Register,
+    rows: &[&Row],
+    sink: &mut K,
+) -> Result<(), CliFault>
+    ensures written { OnOk result ((text : List ℕ) × IsKeySheet register.now (map row_at rows.now) text × WritesAll text (K.state sink.old) (K.state sink.new)) }
+    ensures fault { IfErr result (StopsIn format.Csv register.now (map row_at rows.now) (K.state sink.old) (K.state sink.new)) }
+{
+    let text = match sheet_of_keys(alloc, register, rows) {
+        Ok(text) => text,
+        Err(_) => return Err(CliFault::Memory),
+    };
+    match write_all(sink, &text) {
+        Ok(()) => Ok(()),
+        Err(fault) => Err(CliFault::Out(OutFault::WriteFailed(fault.written))),
+    }
 }
 
-fn text_in(
+// Writes the text of these rows.
+fn write_in<K: Sink>(
     alloc: Global,
     format: Format,
     register: &Register,
     rows: &[&Row],
-) -> Result<Vec<u8>, AllocError>
-    ensures { IfOk result (λ text. IsTextIn format register.now (map row_at rows.now) text.items) }
+    sink: &mut K,
+) -> Result<(), CliFault>
+    ensures written { OnOk result ((text : List ℕ) × IsTextIn format register.now (map row_at rows.now) text × WritesAll text (K.state sink.old) (K.state sink.new)) }
+    ensures fault { IfErr result (StopsIn format register.now (map row_at rows.now) (K.state sink.old) (K.state sink.new)) }
 {
     match format {
-        Format::Geojson => geojson_text(alloc, rows),
-        Format::ProjSql { all } => proj_sql_text(alloc, rows, all),
-        Format::Csv => sheet_of_keys(alloc, register, rows),
+        Format::Geojson => match write_geojson(alloc, rows, sink) {
+            Ok(()) => Ok(()),
+            Err(fault) => Err(fault),
+        },
+        Format::ProjSql { all } => match write_proj_sql(alloc, rows, all, sink) {
+            Ok(()) => Ok(()),
+            Err(fault) => Err(fault),
+        },
+        Format::Csv => match write_sheet(alloc, register, rows, sink) {
+            Ok(()) => Ok(()),
+            Err(fault) => Err(fault),
+        },
     }
 }
 
-// The text of the rows whose keys have one text. If there are other keys, it is refused, unless they may be left out.
-fn text_of_found(
+// Writes the text of the rows whose keys have one text. If there are other keys, it is refused, unless they may be left out. The answer
+// is the least entry of the least of these keys.
+fn write_found<K: Sink>(
     alloc: Global,
     format: Format,
     register: &Register,
     found: &[Row],
     keep_going: bool,
-) -> Result<HandedText, CliFault>
-    ensures ok { IfOk result (λ made. IsHanded format register.now keep_going (map row_seen found.now) made.taken made.text.items) }
-    ensures fault { IfErr result (IsNoText keep_going (map row_seen found.now)) }
+    sink: &mut K,
+) -> Result<Option<OpId>, CliFault>
+    ensures ok { IfOk result (λ taken. (text : List ℕ) × IsHanded format register.now keep_going (map row_seen found.now) taken text × WritesAll text (K.state sink.old) (K.state sink.new)) }
+    ensures fault { IfErr result (λ f. (IsNoText keep_going (map row_seen found.now) f × (K.state sink.new ≡ K.state sink.old))
+        ⊎ IsHalfHanded format register.now keep_going (map row_seen found.now) (K.state sink.old) (K.state sink.new) f) }
 {
     let chosen = match uncontested(alloc, found) {
         Ok(chosen) => chosen,
@@ -75,38 +104,37 @@ fn text_of_found(
     if let Err(fault) = pass(keep_going, chosen.taken) {
         return Err(fault);
     }
-    match text_in(alloc, format, register, &chosen.rows) {
-        Ok(text) => Ok(HandedText {
-            text,
-            taken: chosen.taken,
-        }),
-        Err(_) => Err(CliFault::Memory),
+    match write_in(alloc, format, register, &chosen.rows, sink) {
+        Ok(()) => Ok(chosen.taken),
+        Err(fault) => Err(fault),
     }
 }
 
-// The text of the chosen entries.
-fn handed(
+// Writes the text of the chosen entries.
+fn write_chosen<K: Sink>(
     alloc: Global,
     format: Format,
     register: &Register,
     choice: &Choice<'_>,
     keep_going: bool,
-) -> Result<HandedText, CliFault>
-    ensures ok { IfOk result (λ made. HandsText format choice.now keep_going made.taken register.now made.text.items) }
-    ensures fault { IfErr result (CannotHand choice.now keep_going register.now) }
+    sink: &mut K,
+) -> Result<Option<OpId>, CliFault>
+    ensures ok { IfOk result (λ taken. (text : List ℕ) × HandsText format choice.now keep_going taken register.now text × WritesAll text (K.state sink.old) (K.state sink.new)) }
+    ensures fault { IfErr result (λ f. (CannotHand choice.now keep_going register.now f × (K.state sink.new ≡ K.state sink.old))
+        ⊎ StopsHanding format choice.now keep_going register.now (K.state sink.old) (K.state sink.new) f) }
 {
     let found = match found_for(alloc, register, choice) {
         Ok(found) => found,
         Err(_) => return Err(CliFault::Memory),
     };
-    match text_of_found(alloc, format, register, &found, keep_going) {
-        Ok(made) => Ok(made),
+    match write_found(alloc, format, register, &found, keep_going, sink) {
+        Ok(taken) => Ok(taken),
         Err(fault) => Err(fault),
     }
 }
 
 /// Loads the register, and writes the text of the chosen entries to the sink. With `keep_going`, keys with two texts are left out,
-/// and the answer names the least entry of the least such key.
+/// and the answer names the least entry of the least such key. Features and statements are made and written in turn.
 pub fn run_handed<T: Store, K: Sink>(
     alloc: Global,
     store: &mut T,
@@ -117,19 +145,15 @@ pub fn run_handed<T: Store, K: Sink>(
 ) -> Result<Option<OpId>, CliFault>
     ensures same { T.same store.old store.new }
     ensures printed { IfOk result (λ taken. IsPrinted (T.around store.old store.new) (HandsText format choice.now keep_going taken) (K.state sink.old) (K.state sink.new)) }
-    ensures fault { IfErr result (λ f. (taken : Option Id) × IsUnprinted (T.around store.old store.new) (HandsText format choice.now keep_going taken) (CannotHand choice.now keep_going) (K.state sink.old) (K.state sink.new) f) }
+    ensures fault { IfErr result (IsUnhanded (T.around store.old store.new) format choice.now keep_going (K.state sink.old) (K.state sink.new)) }
 {
     let register = match store.load(alloc) {
         Ok(register) => register,
         Err(fault) => return Err(fault),
     };
-    let HandedText { text, taken } = match handed(alloc, format, &register, choice, keep_going) {
-        Ok(handed) => handed,
-        Err(fault) => return Err(fault),
-    };
-    match write_all(sink, &text) {
-        Ok(()) => Ok(taken),
-        Err(fault) => Err(CliFault::Out(OutFault::WriteFailed(fault.written))),
+    match write_chosen(alloc, format, &register, choice, keep_going, sink) {
+        Ok(taken) => Ok(taken),
+        Err(fault) => Err(fault),
     }
 }
 

@@ -19,7 +19,7 @@ use crate::edges::push_edge_of;
 use crate::title::title_of;
 use crs_export::markup::{GRAPH_END, GRAPH_START, RETIRED_COLOR, SUPERSEDED_COLOR, VALID_COLOR};
 use crs_export::{Title as Label, push_node, push_rivals};
-use csv_table::offices::Name;
+use csv_table::offices::{Name, Names};
 use reg_op::{Op, OpBody, OpId, Status};
 use reg_report::{Conflict, Row, conflicts, is_among, is_entered, printed, rows};
 use reg_state::Register;
@@ -198,7 +198,7 @@ fn push_nodes(
 fn push_edges_from(
     alloc: Global,
     text: &mut Vec<u8>,
-    names: &[Name],
+    names: &Names<'_>,
     register: &Register,
     entry: OpId,
     newer: &[OpId],
@@ -216,7 +216,7 @@ fn push_edges_from(
 fn push_edges(
     alloc: Global,
     text: &mut Vec<u8>,
-    names: &[Name],
+    names: &Names<'_>,
     register: &Register,
     rows: &[Row],
 ) -> Result<(), AllocError>
@@ -234,7 +234,7 @@ fn push_edges(
 fn push_awaited_edge(
     alloc: Global,
     text: &mut Vec<u8>,
-    names: &[Name],
+    names: &Names<'_>,
     register: &Register,
     op: &Op,
 ) -> Result<(), AllocError>
@@ -256,7 +256,7 @@ fn push_awaited_edge(
 fn push_awaited_edges(
     alloc: Global,
     text: &mut Vec<u8>,
-    names: &[Name],
+    names: &Names<'_>,
     register: &Register,
     ops: &[Op],
 ) -> Result<(), AllocError>
@@ -274,7 +274,7 @@ fn push_awaited_edges(
 fn push_all_edges(
     alloc: Global,
     text: &mut Vec<u8>,
-    names: &[Name],
+    names: &Names<'_>,
     register: &Register,
     rows: &[Row],
 ) -> Result<(), AllocError>
@@ -333,7 +333,7 @@ fn push_graph(
     alloc: Global,
     text: &mut Vec<u8>,
     all: bool,
-    names: &[Name],
+    names: &Names<'_>,
     register: &Register,
     rows: &[Row],
     conflicts: &[Conflict],
@@ -362,7 +362,8 @@ pub fn graph_text(
 {
     let rows = rows(alloc, register)?;
     let conflicts = conflicts(alloc, register)?;
+    let names = Names::indexed(alloc, names)?;
     let mut text = Vec::new(alloc);
-    push_graph(alloc, &mut text, all, names, register, &rows, &conflicts)?;
+    push_graph(alloc, &mut text, all, &names, register, &rows, &conflicts)?;
     Ok(text)
 }

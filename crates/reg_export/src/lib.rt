@@ -18,6 +18,7 @@ mod notes;
 mod proj_sql;
 mod title;
 mod twins;
+mod waiting;
 
 pub use choice::{Choice, found_for};
 pub use chosen::{Chosen, uncontested};

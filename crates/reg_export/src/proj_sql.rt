@@ -1,17 +1,29 @@
 //! Rows as SQL for PROJ.
 
-ghost use Rattle.std.specs.Prelude.{◌≡◌, ◌++◌, List, map, IfOk, OnOk};
+ghost use Rattle.std.specs.Prelude.{◌≡◌, ◌++◌, [], ℕ, List, map, IfOk, OnOk, IfErr};
+ghost use Rattle.byte_io.specs.Whole.{WritesAll};
 ghost use Rattle.reg_op.specs.Text.{printed};
 ghost use Rattle.reg_report.specs.Seen.{row_seen};
 ghost use Rattle.crs_export.specs.declared.filed.Filed.{Filed as OneFiled};
-ghost use Rattle.reg_export.specs.ProjSql.{passes_over, IsTaken, IsFiled, FilesAs, IsSql};
+ghost use Rattle.crs_export.specs.Held.{Holds};
+ghost use Rattle.crs_export.specs.Sql.{text_at, lines};
+ghost use Rattle.reg_export.specs.Titles.{Each};
+ghost use Rattle.reg_export.specs.ProjSql.{passes_over, IsTaken, IsFiled, FilesAs, IsSql, BeginsWith, BeginsSql};
 ghost use Rattle.reg_export.specs.Kept.{row_at};
+ghost use Rattle.reg_export.specs.Written.{IsSoFar, IsCutShort, IsUnwritten};
 
 use crate::title::title_of;
-use crs_export::{EntryText, Filed, Table, number_of, rows_of, sql_text, table_of};
+use crate::waiting::{finish, pass_enough};
+use byte_io::Sink;
+use crs_export::markup::{SQL_END, SQL_START};
+use crs_export::{
+    EntryText, Filed, HeldText, RowPlace, Table, number_of, push_entry, rows_of, table_of,
+};
 use crs_part::same_word;
+use reg_engine::CliFault;
 use reg_report::{Row, printed};
 use std::alloc::{AllocError, Global};
+use std::collections::BTreeMap;
 
 // What PROJ's tables take of a reference system.
 #[derive(Drop)]
@@ -62,31 +74,73 @@ fn passes_over(all: bool, authority: &[u8]) -> bool
     !all && same_word(authority, b"EPSG")
 }
 
-fn push_filed<'a>(
+// Appends the statements of a row after others, whose texts are held in their places.
+fn push_row<'a>(
     alloc: Global,
-    made: &mut Vec<Filed<'a>>,
+    held: &mut BTreeMap<RowPlace<'a>, HeldText<'a>>,
+    text: &mut Vec<u8>,
     row: &'a Row,
     all: bool,
 ) -> Result<(), AllocError>
-    ensures { OnOk result ((fs : List OneFiled) × FilesAs all (row_seen row.now) fs × (made.new.items ≡ made.old.items ++ fs)) }
+    ensures { (before : List OneFiled) → Holds held.old (λ p. text_at p before)
+        → OnOk result ((fs : List OneFiled) × FilesAs all (row_seen row.now) fs × Holds held.new (λ p. text_at p (before ++ fs)) × (text.new.items ≡ text.old.items ++ lines before fs)) }
 {
     let key = row.definition.key();
     if passes_over(all, key.authority.as_bytes()) {
         return Ok(());
     }
     let filed = filed_of(alloc, row)?;
-    made.push(filed)?;
+    push_entry(held, text, &filed)?;
     Ok(())
 }
 
-/// The statements that put these rows into PROJ's tables; those of EPSG only if all are asked for.
-pub fn proj_sql_text<'a>(alloc: Global, rows: &[&'a Row], all: bool) -> Result<Vec<u8>, AllocError>
-    ensures { IfOk result (λ text. IsSql all (map row_at rows.now) text.items) }
+// Makes the statements of the rows, and writes those that wait when they are enough. The answer is how many bytes were written so far.
+fn write_rows<'a, K: Sink>(
+    alloc: Global,
+    waiting: &mut Vec<u8>,
+    rows: &[&'a Row],
+    all: bool,
+    sink: &mut K,
+) -> Result<usize, CliFault>
+    ensures passed { IfOk result (λ total. (fs : List OneFiled) × Each (FilesAs all) (map row_at rows.now) fs
+        × IsSoFar (K.state sink.old) (waiting.old.items ++ lines [] fs) (K.state sink.new) waiting.new.items total) }
+    ensures fault { IfErr result (IsCutShort (BeginsWith waiting.old.items all) (map row_at rows.now) (K.state sink.old) (K.state sink.new)) }
 {
-    let mut made = Vec::new(alloc);
+    let mut held = BTreeMap::new(alloc);
+    let mut written = 0usize;
     for row in rows {
-        push_filed(alloc, &mut made, *row, all)?;
+        if let Err(_) = push_row(alloc, &mut held, waiting, *row, all) {
+            return Err(CliFault::Memory);
+        }
+        written = match pass_enough(waiting, written, sink) {
+            Ok(total) => total,
+            Err(fault) => return Err(fault),
+        };
     }
-    let text = sql_text(alloc, &made)?;
-    Ok(text)
+    Ok(written)
+}
+
+/// Writes the statements that put these rows into PROJ's tables; those of EPSG only if all are asked for. They are made and written in
+/// turn; if memory runs out after the first byte, the output stops.
+pub fn write_proj_sql<'a, K: Sink>(
+    alloc: Global,
+    rows: &[&'a Row],
+    all: bool,
+    sink: &mut K,
+) -> Result<(), CliFault>
+    ensures written { OnOk result ((text : List ℕ) × IsSql all (map row_at rows.now) text × WritesAll text (K.state sink.old) (K.state sink.new)) }
+    ensures fault { IfErr result (IsUnwritten (BeginsSql all) (IsSql all (map row_at rows.now)) (map row_at rows.now) (K.state sink.old) (K.state sink.new)) }
+{
+    let mut waiting = match SQL_START.to_vec(alloc) {
+        Ok(waiting) => waiting,
+        Err(_) => return Err(CliFault::Memory),
+    };
+    let written = match write_rows(alloc, &mut waiting, rows, all, sink) {
+        Ok(written) => written,
+        Err(fault) => return Err(fault),
+    };
+    match finish(&mut waiting, SQL_END, written, sink) {
+        Ok(()) => Ok(()),
+        Err(fault) => Err(fault),
+    }
 }
