@@ -25,10 +25,7 @@ pub enum Keeps<'a> {
     /// These: the others with their keys are retired.
     Entries(&'a [OpId]),
     /// Of each key in conflict that a word names, or of each without words, the entry of the office, if it has exactly one there.
-    OfOffice {
-        office: Uuid,
-        words: &'a [&'a [u8]],
-    },
+    OfOffice { office: Uuid, words: &'a [&'a [u8]] },
     /// Of entries with one text the least.
     Equal,
 }
