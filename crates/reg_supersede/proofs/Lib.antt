@@ -10,4 +10,5 @@ mod LastLemmas
 mod SameRows
 mod StillRows
 mod MadeLemmas
+mod DoneLemmas
 mod AgainLemmas

@@ -3,7 +3,9 @@ use Rattle.std.specs.Prelude.{◌≡◌, ◌⊎◌, ◌≤◌, ◌+◌, ◌++◌
 use Rattle.std.specs.List.{list_any}
 use Rattle.std.specs.BTreeSet.{BTreeSet, contains}
 use Rattle.std.specs.declared.cmp.Ordering.{Ordering}
-use Rattle.std.specs.Ordering.{ordering_then}
+use Rattle.std.specs.Ordering.{ordering_then, nat_cmp}
+use Rattle.std.specs.Borrow.{Bor}
+use Rattle.std.specs.Cmp.Lexicographic.{slice_cmp}
 use Rattle.reg_op.specs.Set as set
 use Rattle.reg_op.specs.Ids.{Id, id_cmp, is_same}
 use Rattle.reg_op.specs.Operations.{Op, Ops, op_cmp}
@@ -20,6 +22,7 @@ use Rattle.reg_supersede.specs.declared.pair.Pair.{Pair}
 use Rattle.reg_supersede.specs.declared.fault.RefusedLine.{RefusedLine}
 use Rattle.reg_supersede.specs.declared.fault.LineFault.{LineFault}
 use Rattle.reg_supersede.specs.declared.fault.LineFault.TheVariants as line
+use Rattle.reg_supersede.specs.Lines.{words}
 use Rattle.reg_supersede.specs.Lists.{Task, rows_if, is_there, is_pair, pairs_of, lacking, bodies_of, IsRefusal, DoesLine, RefusesLine, RefusesAll}
 
 abbrev pub task_of : ListOptions → Task
@@ -111,6 +114,19 @@ abbrev pub StepsOn : Task → Content → ℕ → List ℕ → List Body → Lis
 StepsOn t x n text old left new more =
     ((now : List Id) × DoesLine t (after t x old) text (after t x new) now × (ids_of t x new ≡ ids_of t x old ++ now) × (more ≡ left))
     ⊎ ((f : LineFault) × (t.keep_going ≡ true) × RefusesLine t (after t x old) text f × (new ≡ old) × (more ≡ left ++ record { line = n; fault = f } ∷ []))
+
+-- ---- lines that are done
+
+abbrev pub bytes_cmp : Bor (List ℕ) → Bor (List ℕ) → Ordering
+bytes_cmp a b = slice_cmp nat_cmp a.now b.now
+
+-- after these effects no line of the set adds a pair
+abbrev pub AreDone : Task → Content → List Body → BTreeSet (Bor (List ℕ)) → Type 0
+AreDone t x bs done = (q : Bor (List ℕ)) → contains bytes_cmp done q ≡ true → AddsFor t x bs (words q.now) []
+
+-- the second set has the lines of the first, and no other but this one
+abbrev pub HasMore : List ℕ → BTreeSet (Bor (List ℕ)) → BTreeSet (Bor (List ℕ)) → Type 0
+HasMore text old new = (q : Bor (List ℕ)) → contains bytes_cmp new q ≡ true → (q.now ≡ text) ⊎ (contains bytes_cmp old q ≡ true)
 
 -- ---- why a line makes nothing, unless there is no memory
 

@@ -4,7 +4,7 @@ ghost use Rattle.std.specs.Prelude.{◌≡◌, ◌++◌, ◌∷◌, [], true, ma
 ghost use Rattle.reg_keys.specs.Index.{IsIndex};
 ghost use Rattle.reg_supersede.specs.Lines.{words};
 ghost use Rattle.reg_supersede.specs.Lists.{rows_if, IsRefusal, bodies_of, RefusesFor, DoesAll};
-ghost use Rattle.reg_supersede.specs.Effects.{task_of, after, ids_of, ArePairs, CanMake, AddsFor, StepsOn, IsLineFault, IsListFault, IsStepFault, IsNotLeft};
+ghost use Rattle.reg_supersede.specs.Effects.{task_of, after, ids_of, ArePairs, CanMake, AddsFor, StepsOn, AreDone, HasMore, IsLineFault, IsListFault, IsStepFault, IsNotLeft};
 
 use crate::check::pairs_to_add;
 use crate::fault::{LineFault, LineWord, RefusedLine};
@@ -90,26 +90,49 @@ fn push_line(effects: &mut ListEffects, pairs: &[Pair]) -> Result<(), AllocError
     Ok(())
 }
 
-// One line, with this number. If it is refused and left out, it is listed.
-fn step(
+// Appends the effects of a line, and puts it among the lines that are done.
+fn push_done<'a>(
+    effects: &mut ListEffects,
+    done: &mut BTreeSet<&'a [u8]>,
+    pairs: &[Pair],
+    line: &'a [u8],
+) -> Result<(), AllocError>
+    requires { ArePairs effects.old.pairs effects.old.bodies.items }
+    ensures bodies { OnOk result (effects.new.bodies.items ≡ effects.old.bodies.items ++ bodies_of pairs.now) }
+    ensures pairs { OnOk result (ArePairs effects.new.pairs effects.new.bodies.items) }
+    ensures done { OnOk result (HasMore line.now done.old done.new) }
+{
+    push_line(effects, pairs)?;
+    done.insert(line)?;
+    Ok(())
+}
+
+// One line, with this number. If it was done before, nothing of it is left to do. If it is refused and left out, it is listed.
+fn step<'a>(
     alloc: Global,
     options: &ListOptions<'_>,
     effects: &mut ListEffects,
+    done: &mut BTreeSet<&'a [u8]>,
     left: &mut Vec<RefusedLine>,
     number: usize,
-    line: &[u8],
+    line: &'a [u8],
 ) -> Result<(), RefusedLine>
     requires index { IsIndex options.now.index.now (rows_if options.now.keys options.now.register.now) }
     requires made { CanMake (task_of options.now) options.now.register.now effects.old.bodies.items }
     requires pairs { ArePairs effects.old.pairs effects.old.bodies.items }
+    requires done { AreDone (task_of options.now) options.now.register.now effects.old.bodies.items done.old }
     ensures ok { OnOk result (StepsOn (task_of options.now) options.now.register.now number line.now effects.old.bodies.items left.old.items effects.new.bodies.items left.new.items) }
     ensures made { OnOk result (CanMake (task_of options.now) options.now.register.now effects.new.bodies.items) }
     ensures pairs { OnOk result (ArePairs effects.new.pairs effects.new.bodies.items) }
+    ensures done { OnOk result (AreDone (task_of options.now) options.now.register.now effects.new.bodies.items done.new) }
     ensures fault { IfErr result (IsStepFault (task_of options.now) (after (task_of options.now) options.now.register.now effects.old.bodies.items) number line.now) }
 {
     let _content = options.register.seen();
+    if done.contains(&line) {
+        return Ok(());
+    }
     match allowed(alloc, options, effects, line) {
-        Ok(pairs) => match push_line(effects, &pairs) {
+        Ok(pairs) => match push_done(effects, done, &pairs, line) {
             Ok(()) => Ok(()),
             Err(_) => Err(RefusedLine {
                 line: number,
@@ -178,9 +201,18 @@ pub fn all_lines(
         bodies: Vec::new(alloc),
         pairs: BTreeSet::new(alloc),
     };
+    let mut done = BTreeSet::new(alloc);
     let mut left = Vec::new(alloc);
     for (at, line) in lines.iter().enumerate() {
-        step(alloc, options, &mut effects, &mut left, at + 1, *line)?;
+        step(
+            alloc,
+            options,
+            &mut effects,
+            &mut done,
+            &mut left,
+            at + 1,
+            *line,
+        )?;
     }
     let ListEffects { bodies, pairs: _ } = effects;
     Ok(Listed { bodies, left })

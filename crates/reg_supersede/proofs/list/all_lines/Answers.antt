@@ -3,6 +3,7 @@ use Rattle.std.proofs.lemmas.Result.{err_from_is_err_and}
 use Rattle.std.specs.Borrow.{Bor}
 use Rattle.reg_supersede.specs.Effects.{task_of}
 use Rattle.reg_supersede.proofs.LineLemmas.{can_none, none_paired}
+use Rattle.reg_supersede.proofs.DoneLemmas.{none_are_done}
 use Rattle.reg_supersede.proofs.ListLemmas.{completes_first, passes_first, completes_more, passes_more, passes_here, all_done}
 use Rattle.reg_supersede.proofs.list.all_lines.Goals as goal
 use Rattle.reg_keys.proofs.NamedLemmas.{here, ended}
@@ -17,6 +18,7 @@ loop-at-init c =
       passes_first t x is all c.new.result.items c.new.ensures.items,
       can_none t x c.new.result.items is c.new.ensures.items,
       none_paired c.new-2.result c.new.result.items (search rules) c.new.ensures.items,
+      none_are_done t x c.new.result.items c.new-done.result (search rules),
     )
 
 pub loop-at-preserved : goal.loop-at-preserved
@@ -32,6 +34,7 @@ loop-at-preserved c =
       passes_more t x all (at + 1) rest others _ c.loop-at.effects.bodies.items c.step.new.effects.bodies.items c.loop-at.left.items c.step.new.left.items first c.in_ok-step.ensures.ok c.loop-at.invariant.1,
       c.in_ok-step.ensures.made,
       c.in_ok-step.ensures.pairs,
+      c.in_ok-step.ensures.done,
     )
 
 pub returns-clause-done : goal.returns-clause-done
