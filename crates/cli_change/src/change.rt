@@ -19,7 +19,7 @@ use cli_open::{
 };
 use reg_commands::{ByWords, Retire, RetireOf, Supersede, SupersedeOf};
 use reg_engine::CliFault;
-use reg_supersede::{RefusedLine, SupersedeFrom, refused_line, refused_word};
+use reg_supersede::{RefusedLine, SupersedeFrom, lines_of, refused_line, refused_word};
 use std::alloc::{AllocError, Global};
 use std::str;
 
@@ -212,7 +212,10 @@ fn line_of(fault: &CliFault, refused: &[RefusedLine], keep_going: bool) -> Optio
 fn at_line(alloc: Global, list: &[u8], line: RefusedLine) -> ListFault
     ensures { IsAtLine line result }
 {
-    match told_line(alloc, list, line) {
+    let Ok(lines) = lines_of(alloc, list) else {
+        return ListFault::Plain(CliFault::Memory);
+    };
+    match told_line(alloc, &lines, line) {
         Ok(line) => ListFault::AtLine(line),
         Err(_) => ListFault::Plain(CliFault::Memory),
     }
@@ -225,24 +228,25 @@ fn told_lines(
 ) -> Result<Vec<ToldLine>, AllocError>
     ensures { IfOk result (λ told. map (λ (t : ToldLine). t.line) told.items ≡ refused.now) }
 {
-    let mut lines = Vec::new(alloc);
+    let lines = lines_of(alloc, list)?;
+    let mut told = Vec::new(alloc);
     for line in refused {
-        let told = told_line(alloc, list, *line)?;
-        lines.push(told)?;
+        let one = told_line(alloc, &lines, *line)?;
+        told.push(one)?;
     }
-    Ok(lines)
+    Ok(told)
 }
 
-fn told_line(alloc: Global, list: &[u8], line: RefusedLine) -> Result<ToldLine, AllocError>
+fn told_line(alloc: Global, lines: &[&[u8]], line: RefusedLine) -> Result<ToldLine, AllocError>
     ensures { IfOk result (λ told. told.line ≡ line) }
 {
-    let word = word_of(alloc, list, &line)?;
+    let word = word_of(alloc, lines, &line)?;
     Ok(ToldLine { line, word })
 }
 
 // The word for which a line is refused.
-fn word_of(alloc: Global, list: &[u8], line: &RefusedLine) -> Result<String, AllocError> {
-    let word = refused_word(alloc, list, line)?.unwrap_or(b"");
+fn word_of(alloc: Global, lines: &[&[u8]], line: &RefusedLine) -> Result<String, AllocError> {
+    let word = refused_word(alloc, lines, line)?.unwrap_or(b"");
     String::from_str(alloc, str::from_utf8(word).unwrap_or(""))
 }
 

@@ -6,5 +6,7 @@ pub mod MergeOnLemmas
 mod ReportLemmas
 mod KeyedLemmas
 mod MeaningLemmas
+mod RepeatedLemmas
+mod MoreEffects
 mod EachLemmas
 mod IdLemmas

@@ -9,4 +9,6 @@ pub mod Report
 pub mod MergeOn
 pub mod Meaning
 pub mod Keyed
+pub mod Repeated
 pub mod Once
+pub mod EffectLaws

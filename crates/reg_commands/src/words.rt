@@ -3,6 +3,7 @@
 mod changing;
 mod keyed;
 mod meaning;
+mod repeated;
 mod retiring;
 mod superseding;
 

@@ -14,4 +14,5 @@ mod told;
 
 pub use engine::SupersedeFrom;
 pub use fault::{LineFault, LineWord, RefusedLine};
+pub use lines::lines_of;
 pub use told::{refused_line, refused_word};

@@ -1,11 +1,12 @@
 //! How a refused line prints, and when a command reports it.
 
-ghost use Rattle.std.specs.Prelude.{◌≡◌, map, option_map, IfOk, IfSome, IfNone};
+ghost use Rattle.std.specs.Prelude.{◌≡◌, ℕ, List, map, option_map, IfOk, IfSome, IfNone};
 ghost use Rattle.reg_supersede.specs.declared.fault.RefusedLine.{RefusedLine};
+ghost use Rattle.reg_supersede.specs.Lines.{lines};
 ghost use Rattle.reg_supersede.specs.Engine.{cause_of, Refuses, word_at, fault_word, word_of};
 
 use crate::fault::{LineFault, LineWord, RefusedLine};
-use crate::lines::{lines_of, words_of};
+use crate::lines::words_of;
 use reg_engine::{CliFault, Refusal};
 use std::alloc::{AllocError, Global};
 use std::fmt::{self, Display};
@@ -48,19 +49,18 @@ pub fn refused_line(
     None
 }
 
-/// The word for which a line of the list is refused, if it is for one.
+/// The word for which one of the lines of a list is refused, if it is for one.
 pub fn refused_word<'a>(
     alloc: Global,
-    list: &'a [u8],
+    list: &[&'a [u8]],
     refused: &RefusedLine,
 ) -> Result<Option<&'a [u8]>, AllocError>
-    ensures { IfOk result (λ word. option_map (λ w. w.now) word ≡ word_of list.now refused.now.line (fault_word refused.now.fault)) }
+    ensures { (bytes : List ℕ) → map (λ l. l.now) list.now ≡ lines bytes → IfOk result (λ word. option_map (λ w. w.now) word ≡ word_of bytes refused.now.line (fault_word refused.now.fault)) }
 {
     let Some(at) = word_of_fault(refused.fault) else {
         return Ok(None);
     };
-    let lines = lines_of(alloc, list)?;
-    let Some(line) = lines.get(refused.line.saturating_sub(1)) else {
+    let Some(line) = list.get(refused.line.saturating_sub(1)) else {
         return Ok(None);
     };
     let words = words_of(alloc, *line)?;

@@ -15,7 +15,7 @@ use std::alloc::{AllocError, Global};
 
 /// A command on entries whose effects are known.
 pub trait EffectsOf: ChangeOf {
-    ghost use Rattle.std.specs.Prelude.{◌≡◌, ℕ, List, IfOk};
+    ghost use Rattle.std.specs.Prelude.{◌≡◌, ◌++◌, ℕ, List, IfOk};
     ghost use Rattle.reg_op.specs.Ids.{Id};
     ghost use Rattle.reg_op.specs.declared.operation.OpBody.{OpBody as Body};
 
@@ -35,14 +35,20 @@ pub trait EffectsOf: ChangeOf {
 
     fn note_of(&self) -> &str
         ensures { result.now ≡ note self.now };
+
+    /// More entries have more effects, after those of the first ones.
+    ghost more: { (c : Self) (es later fs : List Id) → (rest : List Body) × (effects c (es ++ later) fs ≡ effects c es fs ++ rest) };
 }
 
 impl EffectsOf for RetireOf<'_> {
     ghost use Rattle.reg_office.specs.Commands.{retirements};
+    ghost use Rattle.reg_commands.specs.EffectLaws.{more_retirements};
 
     ghost effects = { λ c. λ es. λ fs. retirements es };
 
     ghost note = { λ c. c.note.now };
+
+    ghost more = { λ c es later fs. more_retirements es later };
 
     fn effects_of(
         &self,
@@ -60,10 +66,13 @@ impl EffectsOf for RetireOf<'_> {
 
 impl EffectsOf for SupersedeOf<'_> {
     ghost use Rattle.reg_commands.specs.Keyed.{each_superseded};
+    ghost use Rattle.reg_commands.specs.EffectLaws.{more_superseded};
 
     ghost effects = { λ c. λ es. λ fs. each_superseded es fs };
 
     ghost note = { λ c. c.note.now };
+
+    ghost more = { λ c es later fs. more_superseded es later fs };
 
     fn effects_of(
         &self,
@@ -140,6 +149,35 @@ impl<C: EffectsOf> ChangeOf for OnceOf<'_, C> {
         {
             Ok(made) => Ok(made),
             Err(fault) => Err(fault),
+        }
+    }
+
+    fn refusal_of(
+        &self,
+        alloc: Global,
+        entries: &[OpId],
+        newer: &[OpId],
+        loaded: &Register,
+        register: &Register,
+    ) -> Option<CliFault> {
+        let Ok(effects) = self.command.effects_of(alloc, entries, newer) else {
+            return None;
+        };
+        if effects.is_empty() {
+            return None;
+        }
+        let before = self
+            .office
+            .again(loaded.seen(), register, self.command.note_of(), &effects);
+        if let Some(_) = before {
+            return None;
+        }
+        match self
+            .command
+            .refusal_of(alloc, entries, newer, loaded, register)
+        {
+            Some(fault) => Some(fault),
+            None => None,
         }
     }
 }

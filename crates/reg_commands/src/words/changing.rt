@@ -3,6 +3,7 @@
 //! Each command is written once, for ids. `ByWords` looks up the entries of words, and runs the command.
 
 use crate::words::meaning::entries_meant;
+use crate::words::repeated::unless_refused;
 use reg_engine::{Change, CliFault, Made};
 use reg_op::OpId;
 use reg_state::Register;
@@ -11,7 +12,7 @@ use std::alloc::Global;
 /// A command that makes a new register from a register, some of its entries, and others that supersede them. It also sees the register
 /// that was loaded, which lacks what its office file brought.
 pub trait ChangeOf {
-    ghost use Rattle.std.specs.Prelude.{ℕ, List, IfOk, IfErr};
+    ghost use Rattle.std.specs.Prelude.{◌++◌, ℕ, List, IfOk, IfErr, IfSome};
     ghost use Rattle.reg_op.specs.Ids.{Id};
     ghost use Rattle.reg_op.specs.Contents.{Content};
     ghost use Rattle.reg_engine.specs.declared.fault.CliFault.{CliFault};
@@ -33,6 +34,17 @@ pub trait ChangeOf {
     ) -> Result<Made, CliFault>
         ensures makes { IfOk result (λ made. makes self.now entries.now newer.now loaded.now register made.register made.lines.items) }
         ensures refuses { IfErr result (refuses self.now entries.now newer.now loaded.now register) };
+
+    /// Why it makes nothing with these entries, whatever entries follow them. None if that is not known before it is run.
+    fn refusal_of(
+        &self,
+        alloc: Global,
+        entries: &[OpId],
+        newer: &[OpId],
+        loaded: &Register,
+        register: &Register,
+    ) -> Option<CliFault>
+        ensures { IfSome result (λ f. (more : List Id) → refuses self.now (entries.now ++ more) newer.now loaded.now register.now f) };
 }
 
 /// A command that changes entries: all that words mean. Each of the words in `newer` means one entry that supersedes them. It keeps a
@@ -91,6 +103,16 @@ impl<C: ChangeOf> Change for ByWords<'_, C> {
         read: Register,
         register: Register,
     ) -> Result<Made, CliFault> {
+        if let Err(fault) = unless_refused(
+            alloc,
+            self.command,
+            &read,
+            &register,
+            self.words,
+            self.newer,
+        ) {
+            return Err(fault);
+        }
         let entries = match entries_meant(alloc, &read, &register, self.words, self.newer) {
             Ok(entries) => entries,
             Err(fault) => return Err(fault),

@@ -1,12 +1,22 @@
 //! `retire` of the entries that words name.
 
+ghost use Rattle.std.specs.Prelude.{◌≡◌, ◌≢◌, false};
+
 use crate::change::retired;
 use crate::words::changing::ChangeOf;
 use reg_engine::{CliFault, Made};
+use reg_office::{Office, OfficeFault};
 use reg_op::OpId;
 use reg_state::Register;
 use std::alloc::Global;
 use uuid::Uuid;
+
+// Whether there are too few numbers.
+fn is_spent(fault: OfficeFault) -> bool
+    ensures { (result ≡ false) → fault ≢ OfficeFault.CountSpent }
+{
+    matches!(fault, OfficeFault::CountSpent)
+}
 
 /// `Retire` of entries.
 #[derive(Drop)]
@@ -35,5 +45,27 @@ impl ChangeOf for RetireOf<'_> {
             Ok(made) => Ok(made),
             Err(fault) => Err(fault),
         }
+    }
+
+    fn refusal_of(
+        &self,
+        alloc: Global,
+        entries: &[OpId],
+        _newer: &[OpId],
+        _loaded: &Register,
+        register: &Register,
+    ) -> Option<CliFault> {
+        let Ok(copy) = register.try_clone(alloc) else {
+            return None;
+        };
+        let mut office = Office::new(self.replica, copy);
+        let Err(fault) = office.retire(alloc, entries, self.note) else {
+            return None;
+        };
+        // With more entries, one of them may be refused before the numbers are spent.
+        if is_spent(fault) {
+            return None;
+        }
+        Some(CliFault::of_office(fault))
     }
 }

@@ -40,6 +40,18 @@ impl ChangeOf for SupersedeOf<'_> {
             Err(fault) => Err(fault),
         }
     }
+
+    // The command line names one old entry, which cannot come again.
+    fn refusal_of(
+        &self,
+        _alloc: Global,
+        _entries: &[OpId],
+        _newer: &[OpId],
+        _loaded: &Register,
+        _register: &Register,
+    ) -> Option<CliFault> {
+        None
+    }
 }
 
 // Supersedes one entry more, and appends the lines.
