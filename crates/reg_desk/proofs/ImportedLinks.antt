@@ -122,6 +122,7 @@ one_text (told.Superseded i) text others = tt
 one_text (told.Entered i) text others = tt
 one_text (told.Beside i) text others = tt
 one_text (told.Revised i) text others = retired_only others
+one_text (told.Settled i) text others = retired_only (importing.with_another text others)
 one_text (told.Refused p) text others = tt
 one_text told.Spent text others = tt
 

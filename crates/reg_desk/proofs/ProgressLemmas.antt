@@ -66,6 +66,7 @@ no_note names files c (told.Superseded i) h = refl
 no_note names files c (told.Entered i) h = refl
 no_note names files c (told.Beside i) h = refl
 no_note names files c (told.Revised i) h = refl
+no_note names files c (told.Settled i) h = refl
 no_note names files c (told.Refused p) h = absurd (true≢false h)
 no_note names files c told.Spent h = refl
 
@@ -153,6 +154,7 @@ module _ (o : ImportOptions) (files : List (List ℕ)) (cuts : List TextAt) (tex
   first_more None (told.Entered i) new is f = none_now (told.Entered i) new refl is f.0 f.1
   first_more None (told.Beside i) new is f = none_now (told.Beside i) new refl is f.0 f.1
   first_more None (told.Revised i) new is f = none_now (told.Revised i) new refl is f.0 f.1
+  first_more None (told.Settled i) new is f = none_now (told.Settled i) new refl is f.0 f.1
   first_more None told.Spent new is f = none_now told.Spent new refl is f.0 f.1
 
 module _ (o : ImportOptions) (x : Content) (files : List (List ℕ)) (cuts : List TextAt) (texts : List FileText) (ts : List TextAction) (p new : Progress) (h : HasCome o x files cuts texts ts p) where

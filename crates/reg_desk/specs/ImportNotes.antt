@@ -23,6 +23,7 @@ note_in name file c (told.Superseded i) = []
 note_in name file c (told.Entered i) = []
 note_in name file c (told.Beside i) = []
 note_in name file c (told.Revised i) = []
+note_in name file c (told.Settled i) = []
 note_in name file c told.Spent = []
 
 -- the same, in its file among those that were given

@@ -30,6 +30,7 @@ first_of None text (told.Superseded i) = None
 first_of None text (told.Entered i) = None
 first_of None text (told.Beside i) = None
 first_of None text (told.Revised i) = None
+first_of None text (told.Settled i) = None
 first_of None text told.Spent = None
 
 -- a text is explained, if texts are: each, or only the first that is refused

@@ -12,12 +12,15 @@ use Rattle.reg_import.specs.declared.standing_entry.StandingEntry.{StandingEntry
 use Rattle.reg_import.specs.declared.reading.ReadText.{ReadText}
 use Rattle.reg_import.specs.declared.reading.ReadText.TheVariants as reading
 use Rattle.reg_import.specs.declared.action.Differs.{Differs}
+use Rattle.reg_import.specs.declared.action.Differs.TheVariants as differs
 use Rattle.reg_import.specs.declared.action.TextAction.{TextAction}
 use Rattle.reg_import.specs.Known.{OfKey, At, is_key, with_key}
 use Rattle.reg_import.specs.Imports.{least, any_entry, told_of, bodies_of, then_of, told_at, bodies_at, then_at, imports, tolds, effects, is_refused, is_spent, NoneSpent}
 use Rattle.reg_import.specs.Again.{is_there, IsToldAgain}
 use Rattle.reg_import.proofs.KnownLemmas.{same_key, key_itself}
-use Rattle.reg_import.proofs.TextLemmas.{HasText, blocks, there_then, there_makes_nothing, there_not_refused, refused_then, refused_makes_nothing, refused_not_there, there_of_text, not_of_refused, blocks_of_refused, refused_of_blocks, closed_on, comes_ours, ours_on, blocks_on}
+use Rattle.reg_import.proofs.ToldLemmas.{HasText}
+use Rattle.reg_import.proofs.ReviseLemmas.{OneText, IsOneOurs, none_another, becomes_one, stays_one}
+use Rattle.reg_import.proofs.TextLemmas.{blocks, there_then, there_makes_nothing, there_not_refused, refused_then, refused_makes_nothing, refused_not_there, there_of_text, not_of_refused, blocks_of_refused, refused_of_blocks, closed_on, comes_ours, ours_on, blocks_on}
 
 -- a property of the new entries of one key, and of the old entries of other keys, holds for those of each key after the change
 pub at_key : (P : OfKey → Type 0) (key k : KeyBytes) (new : OfKey) (at : At) → (key ≡ k → P new) → (is_key key k ≡ false → P (at k)) → P (with_key key new at k)
@@ -72,6 +75,16 @@ closed_stay d r n at (text ∷ texts) k h =
     let next = closed_then d r n at text k h in
     closed_stay d r (n + length (bodies_at t at text)) (then_at t at text) texts k next.1 ∙ next.0
 
+-- in mode `revise` one text of a key stays one text
+pub one_stays : (d : Differs) → d ≡ differs.Revise → (k : KeyBytes) (r : List ℕ) (n : ℕ) (at : At) (texts : List ReadText) → OneText (at k).known → OneText (finally d r n at texts k).known
+one_stays d is k r n at [] h = h
+one_stays d is k r n at (reading.Unread f ∷ texts) h = one_stays d is k r (n + 0) at texts h
+one_stays d is k r n at (reading.Defined text key ∷ texts) h =
+    let there : OfKey = at (bytes_of key) in
+    let t : TextAction = told_of d (id_at r n) there text in
+    one_stays d is k r (n + length (bodies_of t text there.known)) (with_key (bytes_of key) (then_of t key text there) at) texts
+    (at_key (λ o. OneText o.known) (bytes_of key) k (then_of t key text there) at (λ same. stays_one d is there (id_at r n) key text (subst (λ l. OneText (at l).known) (sym same) h)) (λ _. h))
+
 -- ---- importing one text again
 
 -- importing the text again, with action u, refuses it as before or finds it, and has no effect
@@ -112,13 +125,21 @@ module _ (d : Differs) (new again : Id) (there over : OfKey) (key : Key) (text :
     ours = λ is. ap (λ (o : OfKey). o.ours) (refused_then u key text over h) ∙ o (sym (ap (λ (o : OfKey). o.ours) (refused_then t key text there r)) ∙ is);
   }
 
-  quiet : (there.ours ≡ true → over.ours ≡ true) → SameTexts last over.known → is_spent t ≡ false
+  -- the entries that are there then have this text alone, if those of the first import have one text
+  all_this : SameTexts last over.known → OneText last → HasText over.known text → (e : StandingEntry) → Contains over.known e → e.definition ≡ text
+  all_this same one has e c =
+      let a = same.no_more e.definition (e, c, refl) in
+      let b = same.no_more text has in
+      sym a.2 ∙ one a.0 b.0 a.1 b.1 ∙ b.2
+
+  quiet : (there.ours ≡ true → over.ours ≡ true) → (is_refused t ≡ false → d ≡ differs.Revise → OneText last) → SameTexts last over.known → is_spent t ≡ false
       → ((e : StandingEntry) → (then_of t key text there).ours ≡ true → Contains (then_of t key text there).known e → Contains last e)
       → (Closed d there → last ≡ there.known) → IsQuiet t u key text there over
-  quiet o same unspent stay closed = elim (is_refused t) as (λ b. is_refused t ≡ b → IsQuiet t u key text there over) [
+  quiet o one same unspent stay closed = elim (is_refused t) as (λ b. is_refused t ≡ b → IsQuiet t u key text there over) [
     | false ↦ λ r.
         let c = comes_ours d new there text key r unspent in
-        quiet_there r (there_of_text d again over text (same.all text (c.0.0, stay c.0.0 c.1 c.0.1, c.0.2)))
+        let has : HasText over.known text = same.all text (c.0.0, stay c.0.0 c.1 c.0.1, c.0.2) in
+        quiet_there r (there_of_text d again over text has (λ is. none_another text over.known (all_this same (one r is) has)))
     | true ↦ λ r.
         let h : Closed d there = blocks_of_refused d new there text r in
         let e : last ≡ there.known = closed h in
@@ -134,15 +155,15 @@ pub record AreQuiet (d : Differs) (r : List ℕ) (n : ℕ) (at : At) (s : List �
   pub told : IsToldAgain (tolds (imports d r n at texts)) (tolds (imports d s m over texts))
   pub nothing : effects (imports d s m over texts) ≡ []
 
-pub quiet_all : (d : Differs) (r : List ℕ) (n : ℕ) (at : At) (s : List ℕ) (m : ℕ) (over : At) (texts : List ReadText) → ((k : KeyBytes) → (at k).ours ≡ true → (over k).ours ≡ true)
+pub quiet_all : (d : Differs) (r : List ℕ) (n : ℕ) (at : At) (s : List ℕ) (m : ℕ) (over : At) (texts : List ReadText) → ((k : KeyBytes) → (at k).ours ≡ true → (over k).ours ≡ true) → (d ≡ differs.Revise → (k : KeyBytes) → IsOneOurs (at k))
     → ((k : KeyBytes) → SameTexts (finally d r n at texts k).known (over k).known) → NoneSpent (tolds (imports d r n at texts)) → AreQuiet d r n at s m over texts
-quiet_all d r n at s m over [] ours same unspent = record { told = record { refused = refl; others = refl }; nothing = refl }
-quiet_all d r n at s m over (reading.Unread f ∷ texts) ours same unspent =
-    let rest = quiet_all d r (n + 0) at s (m + 0) over texts ours same unspent in record {
+quiet_all d r n at s m over [] ours one same unspent = record { told = record { refused = refl; others = refl }; nothing = refl }
+quiet_all d r n at s m over (reading.Unread f ∷ texts) ours one same unspent =
+    let rest = quiet_all d r (n + 0) at s (m + 0) over texts ours one same unspent in record {
       told = record { refused = ap (λ l. true ∷ l) rest.told.refused; others = ap (λ l. false ∷ l) rest.told.others };
       nothing = rest.nothing;
     }
-quiet_all d r n at s m over (reading.Defined text key ∷ texts) ours same unspent =
+quiet_all d r n at s m over (reading.Defined text key ∷ texts) ours one same unspent =
     let k : KeyBytes = bytes_of key in
     let t : TextAction = told_of d (id_at r n) (at k) text in
     let u : TextAction = told_of d (id_at s m) (over k) text in
@@ -152,13 +173,17 @@ quiet_all d r n at s m over (reading.Defined text key ∷ texts) ours same unspe
     let later : At = with_key k (then_of u key text (over k)) over in
     let parts = or_parts (is_spent t) (list_any is_spent (tolds (imports d r (n + length bs) next texts))) unspent in
     let here : (o : OfKey) → with_key k o at k ≡ o = λ o. at_key (λ p. p ≡ o) k k o at (λ _. refl) (λ off. absurd (true≢false (sym (itself k) ∙ off))) in
-    let q : IsQuiet t u key text (at k) (over k) = quiet d (id_at r n) (id_at s m) (at k) (over k) key text (finally d r (n + length bs) next texts k).known (ours k) (same k) parts.0
+    let q : IsQuiet t u key text (at k) (over k) = quiet d (id_at r n) (id_at s m) (at k) (over k) key text (finally d r (n + length bs) next texts k).known (ours k)
+    (λ came is. one_stays d is k r (n + length bs) next texts (subst (λ (p : OfKey). OneText p.known) (sym (here (then_of t key text (at k))))
+    (becomes_one d is (at k) (id_at r n) key text (one is k) (comes_ours d (id_at r n) (at k) text key came parts.0).1)))
+    (same k) parts.0
     (λ e o c. ours_stay d r (n + length bs) next texts k e (ap (λ (p : OfKey). p.ours) (here (then_of t key text (at k))) ∙ o) (subst (λ (p : OfKey). Contains p.known e) (sym (here (then_of t key text (at k)))) c))
     (λ h. closed_stay d r n at (reading.Defined text key ∷ texts) k h) in
     let rest = quiet_all d r (n + length bs) next s (m + length cs) later texts
     (λ l. at_key (λ p. (next l).ours ≡ true → p.ours ≡ true) k l (then_of u key text (over k)) over
     (λ e o. q.ours (sym (ap (λ (p : OfKey). p.ours) (here (then_of t key text (at k)))) ∙ subst (λ j. (next j).ours ≡ true) (sym e) o))
     (λ off o. ours l (sym (ap (λ (p : OfKey). p.ours) (not_here l off)) ∙ o)))
+    (λ is l. at_key IsOneOurs k l (then_of t key text (at k)) at (λ _. becomes_one d is (at k) (id_at r n) key text (one is k)) (λ _. one is l))
     (λ l. subst (SameTexts (finally d r (n + length bs) next texts l).known)
     (at_key (λ p. (over l).known ≡ p.known) k l (then_of u key text (over k)) over (λ e. ap (λ j. (over j).known) (sym e) ∙ sym q.known) (λ n. refl)) (same l)) parts.1 in record {
       told = record {

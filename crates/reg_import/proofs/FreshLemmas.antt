@@ -27,7 +27,7 @@ use Rattle.reg_import.specs.declared.reading.ReadText.TheVariants as reading
 use Rattle.reg_import.specs.declared.action.Differs.{Differs}
 use Rattle.reg_import.specs.declared.action.TextAction.{TextAction}
 use Rattle.reg_import.specs.Known.{AreKnown, AreStanding, stands, OfKey, At, is_key, key_of, by_key, with_key}
-use Rattle.reg_import.specs.Imports.{told_of, bodies_of, then_of, imports, effects}
+use Rattle.reg_import.specs.Imports.{has_text, with_another, told_of, bodies_of, then_of, imports, effects}
 use Rattle.reg_import.specs.Plans.{retired}
 use Rattle.reg_import.proofs.KnownLemmas.{same_key, key_itself}
 use Rattle.reg_import.proofs.ToldLemmas.{told_has}
@@ -62,6 +62,16 @@ can_filter ops p before (e ∷ es) h =
       | true ↦ (h.0, h.1, h.2, can_filter ops p (e.entry ∷ before) es h.3)
       | false ↦ can_still ops (e.entry ∷ before) before (filter p es) (can_filter ops p (e.entry ∷ before) es h.3) (λ i m t. or_right (is_same i e.entry) _ t)
     ]
+
+among_filter : (p : StandingEntry → Bool) (es : List StandingEntry) (i : Id) → among i (filter p es) ≡ true → among i es ≡ true
+among_filter p [] i h = h
+among_filter p (e ∷ es) i h = elim (p e) as (λ b. among i (cond b (e ∷ filter p es) (filter p es)) ≡ true → among i (e ∷ es) ≡ true) [
+  | true ↦ λ k. elim (or_cases (is_same i e.entry) (among i (filter p es)) k) [
+    | inl s ↦ or_left (is_same i e.entry) _ s
+    | inr s ↦ or_right (is_same i e.entry) _ (among_filter p es i s)
+  ]
+  | false ↦ λ k. or_right (is_same i e.entry) _ (among_filter p es i k)
+] h
 
 -- an id in `before` with the retired entries is in `before`, or is that of one of the entries
 after_cases : (before : List Id) (es : List StandingEntry) (i : Id) → list_any (is_same i) (and_retired before (retired es)) ≡ true → (list_any (is_same i) before ≡ true) ⊎ (among i es ≡ true)
@@ -103,15 +113,16 @@ module _ (ops : Ops) (before : List Id) (at : At) (key : KeyBytes) (new : OfKey)
   fresh_same : (new.ours ≡ false → new ≡ at key) → Fresh ops before at → Fresh ops before (with_key key new at)
   fresh_same h f = fresh_on before h f (λ k o. f.can k (subst (λ there. there.ours ≡ false) (as_it_was h k o) o))
 
--- retiring all entries of a key, and setting its `ours`, leaves the others fresh
-fresh_revised : (ops : Ops) (before : List Id) (at : At) (key : KeyBytes) (new : OfKey) → (at key).ours ≡ false → new.ours ≡ true → Fresh ops before at → Fresh ops (and_retired before (retired (at key).known)) (with_key key new at)
-fresh_revised ops before at key new free ours f =
+-- retiring entries of a key, and setting its `ours`, leaves the others fresh
+fresh_retired : (ops : Ops) (before : List Id) (at : At) (key : KeyBytes) (new : OfKey) (es : List StandingEntry) → ((i : Id) → among i es ≡ true → among i (at key).known ≡ true) → (at key).ours ≡ false → new.ours ≡ true → Fresh ops before at
+    → Fresh ops (and_retired before (retired es)) (with_key key new at)
+fresh_retired ops before at key new es within free ours f =
     let not_free : new.ours ≡ false → new ≡ at key = λ e. absurd (true≢false (sym ours ∙ e)) in
-    fresh_on ops before at key new (and_retired before (retired (at key).known)) not_free f (λ k o.
+    fresh_on ops before at key new (and_retired before (retired es)) not_free f (λ k o.
     let was : (at k).ours ≡ false = subst (λ there. there.ours ≡ false) (as_it_was ops before at key new not_free k o) o in
-    can_still ops before (and_retired before (retired (at key).known)) (at k).known (f.can k was) (λ i m t. elim (after_cases before (at key).known i t) [
+    can_still ops before (and_retired before (retired es)) (at k).known (f.can k was) (λ i m t. elim (after_cases before es i t) [
       | inl a ↦ a
-      | inr a ↦ absurd (true≢false (sym ours ∙ ours_there k (f.apart key k i free was a m) o))
+      | inr a ↦ absurd (true≢false (sym ours ∙ ours_there k (f.apart key k i free was (within i a) m) o))
     ]))
   where
     ours_there : (k : KeyBytes) → is_key key k ≡ true → (with_key key new at k).ours ≡ false → new.ours ≡ false
@@ -130,7 +141,11 @@ goes d ops before at new key text f =
       superseded = λ i. record { once = tt; fresh = ours _ refl };
       entered = λ l. record { once = tt; fresh = ours _ refl };
       beside = λ l. record { once = tt; fresh = ours _ refl };
-      revised = λ free l. record { once = f.can (bytes_of key) free; fresh = fresh_revised ops before at (bytes_of key) _ free refl f };
+      revised = λ free l. record { once = f.can (bytes_of key) free; fresh = fresh_retired ops before at (bytes_of key) _ (at (bytes_of key)).known (λ i m. m) free refl f };
+      settled = λ i has free l. record {
+        once = can_filter ops (λ (e : StandingEntry). not (has_text text e)) before (at (bytes_of key)).known (f.can (bytes_of key) free);
+        fresh = fresh_retired ops before at (bytes_of key) _ (with_another text (at (bytes_of key)).known) (among_filter (λ (e : StandingEntry). not (has_text text e)) (at (bytes_of key)).known) free refl f;
+      };
       taken = λ i. record { once = tt; fresh = same };
       spent = record { once = tt; fresh = same };
     })

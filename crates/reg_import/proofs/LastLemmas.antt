@@ -1,5 +1,5 @@
 -- The entries of each key after an import have the texts of the entries that are not retired after it.
-use Rattle.std.proofs.Common.{◌≡◌, ℕ, ◌+◌, true, false, ◌&&◌, ◌||◌, List, [], ◌∷◌, ◌++◌, append_assoc, append-nil, add-zero, length, refl, sym, ap, ◌∙◌, subst, inl, inr, ◌⊎◌, arith}
+use Rattle.std.proofs.Common.{◌≡◌, ℕ, ◌+◌, Bool, true, false, not, ◌&&◌, ◌||◌, List, [], ◌∷◌, ◌++◌, append_assoc, append-nil, add-zero, length, refl, sym, ap, ◌∙◌, subst, inl, inr, ◌⊎◌, arith}
 use Rattle.std.specs.Prelude.{Contains}
 use Rattle.std.specs.Cmp.{tied_itself}
 use Rattle.std.specs.Ordering.{is_eq, eq_by_cmp}
@@ -8,6 +8,7 @@ use Rattle.std.proofs.lemmas.List.Folds.{list_any-append}
 use Rattle.std.proofs.lemmas.List.Elements.{Contains-append_cases, Contains-append_left}
 use Rattle.crs_value.specs.declared.key.Key.{Key}
 use Rattle.wkt_crs.specs.Definition.{IsKeyIn}
+use Rattle.wkt_crs.proofs.Defining.{same_bytes}
 use Rattle.reg_op.specs.Set.{contains}
 use Rattle.reg_op.specs.Ids.{Id, is_same}
 use Rattle.reg_op.specs.Lists.{has}
@@ -34,17 +35,17 @@ use Rattle.reg_import.specs.declared.action.Differs.{Differs}
 use Rattle.reg_import.specs.declared.action.TextAction.{TextAction}
 use Rattle.reg_import.specs.declared.action.TextAction.TheVariants as told
 use Rattle.reg_import.specs.Known.{AreStanding, OfKey, At, is_key, key_of, by_key, with_key}
-use Rattle.reg_import.specs.Imports.{told_of, bodies_of, entered, then_of, imports, effects, is_refused, is_spent}
+use Rattle.reg_import.specs.Imports.{has_text, with_text, with_another, told_of, bodies_of, entered, then_of, imports, effects, is_refused, is_spent}
 use Rattle.reg_import.specs.Plans.{retired}
 use Rattle.reg_import.specs.Again.{HasStanding, RetiresNoneAhead}
 use Rattle.reg_import.proofs.NumberedLemmas.{numbered_append}
 use Rattle.reg_import.proofs.KnownLemmas.{same_key, key_itself}
-use Rattle.reg_import.proofs.ToldLemmas.{told_has}
+use Rattle.reg_import.proofs.ToldLemmas.{HasText, told_has}
 use Rattle.reg_import.proofs.OnceLemmas.{Once}
 use Rattle.reg_import.proofs.FreshLemmas.{imports_once}
-use Rattle.reg_import.proofs.TextLemmas.{HasText, comes_ours}
+use Rattle.reg_import.proofs.TextLemmas.{text_itself, comes_ours}
 use Rattle.reg_import.proofs.AgainLemmas.{at_key, finally, ours_stay, SameTexts}
-use Rattle.reg_import.proofs.StandingLemmas.{in_filter, to_filter, one_key, IsOld, standing_is_old, old_is_standing, one_key_an_id, entry_stands, standing_entry, gone, still_entered, now_entered, was_entered, then_retired}
+use Rattle.reg_import.proofs.StandingLemmas.{in_filter, to_filter, one_key, IsOld, standing_is_old, old_is_standing, one_text_an_id, one_key_an_id, entry_stands, standing_entry, gone, still_entered, now_entered, was_entered, then_retired}
 
 -- the key that was read is that of the text
 abbrev pub IsKeyed : ReadText → Type 0
@@ -77,8 +78,27 @@ retired_gone (f ∷ es) e c = elim (in_cons e f es c) [
   | inr later ↦ or_right (is_same e.entry f.entry) _ (retired_gone es e later)
 ]
 
+not_true : (b : Bool) → not b ≡ true → b ≡ false
+not_true true h = absurd (true≢false (sym h))
+not_true false h = refl
+
+-- an entry with another text that is retired
+gone_another : (i : Id) (text : List ℕ) (es : List StandingEntry) → gone i (retired (with_another text es)) ≡ true → (e : StandingEntry) × Contains es e × (i ≡ e.entry) × (has_text text e ≡ false)
+gone_another i text es h =
+    let m = gone_retired i (with_another text es) h in
+    let f = in_filter (λ (e : StandingEntry). not (has_text text e)) es m.0 m.1 in
+    (m.0, f.0, m.2, not_true (has_text text m.0) f.1)
+
+kept_text : (text : List ℕ) (es : List StandingEntry) (e : StandingEntry) → Contains es e → gone e.entry (retired (with_another text es)) ≡ false → Contains (with_text text es) e
+kept_text text es e c h = by_test (has_text text e) refl
+  where
+    by_test : (b : Bool) → has_text text e ≡ b → Contains (with_text text es) e
+    by_test true t = to_filter (has_text text) es e c t
+    by_test false n = absurd (true≢false (sym (retired_gone (with_another text es) e (to_filter (λ (f : StandingEntry). not (has_text text f)) es e c (ap not n))) ∙ h))
+
 gone_of : (t : TextAction) (text : List ℕ) (es : List StandingEntry) (i : Id) → gone i (bodies_of t text es) ≡ true → (e : StandingEntry) × Contains es e × (i ≡ e.entry)
 gone_of (told.Revised j) text es i h = gone_retired i es h
+gone_of (told.Settled j) text es i h = let m = gone_another i text es h in (m.0, m.1, m.2)
 gone_of t text es i h = absurd cc
 
 -- an entry that the effects do not retire remains among those of its key
@@ -88,6 +108,7 @@ stays_of (told.Superseded j) key text there e c h = c
 stays_of (told.Entered j) key text there e c h = Contains-append_left there.known (entered j key text ∷ []) e c
 stays_of (told.Beside j) key text there e c h = Contains-append_left there.known (entered j key text ∷ []) e c
 stays_of (told.Revised j) key text there e c h = absurd (true≢false (sym (retired_gone there.known e c) ∙ h))
+stays_of (told.Settled j) key text there e c h = kept_text text there.known e c h
 stays_of (told.Refused p) key text there e c h = c
 stays_of told.Spent key text there e c h = c
 
@@ -118,7 +139,7 @@ module _ (r : List ℕ) (note : List ℕ) where
   pub has_both : (n : ℕ) (bs cs : List Body) (o : Op) → has (numbered r n note (bs ++ cs)) o ≡ (has (numbered r n note bs) o || has (numbered r (n + length bs) note cs) o)
   has_both n bs cs o = ap (λ l. has l o) (numbered_append r n note bs cs) ∙ list_any-append (eq_by_cmp op_cmp o) (numbered r n note bs) (numbered r (n + length bs) note cs)
 
-  no_enter : (n : ℕ) (es : List StandingEntry) (i : Id) (text noted : List ℕ) → has (numbered r n note (retired es)) (entering i text noted) ≡ true → ⊥
+  pub no_enter : (n : ℕ) (es : List StandingEntry) (i : Id) (text noted : List ℕ) → has (numbered r n note (retired es)) (entering i text noted) ≡ true → ⊥
   no_enter n [] i text noted h = true≢false (sym h)
   no_enter n (e ∷ es) i text noted h = elim (op_cases (entering i text noted) (record { id = id_at r n; body = Retire e.entry; note = note }) (numbered r (n + 1) note (retired es)) h) [
     | inl same ↦ let is : ◌≡◌ {A = Body} (Enter text) (Retire e.entry) = ap (λ (o : Op). o.body) same in absurd cc
@@ -128,28 +149,35 @@ module _ (r : List ℕ) (note : List ℕ) where
   itself : (n : ℕ) (text : List ℕ) (bs : List Body) → has (numbered r n note (Enter text ∷ bs)) (entering (id_at r n) text note) ≡ true
   itself n text bs = or_left _ (has (numbered r (n + 1) note bs) (entering (id_at r n) text note)) (ap is_eq (tied_itself op_total (entering (id_at r n) text note)))
 
-  -- an entry of the key after a text was there before, and the text retires nothing; or it is the entry of the text
+  -- an entry of the key with another text has this id
+  abbrev HasOther : List StandingEntry → StandingEntry → Id → Type 0
+  HasOther es e i = (f : StandingEntry) × Contains es f × (i ≡ f.entry) × (f.definition ≡ e.definition → ⊥)
+
+  -- an entry of the key after a text was there before, and the text retires only others; or it is the entry of the text
   abbrev IsThen : TextAction → ℕ → Key → List ℕ → OfKey → StandingEntry → Type 0
-  IsThen t n key text there e = (Contains there.known e × ((i : Id) → gone i (bodies_of t text there.known) ≡ false))
+  IsThen t n key text there e = (Contains there.known e × ((i : Id) → gone i (bodies_of t text there.known) ≡ true → HasOther there.known e i))
       ⊎ ((e ≡ entered (id_at r n) key text) × (has (numbered r n note (bodies_of t text there.known)) (entering (id_at r n) text note) ≡ true))
 
   then_is : (d : Differs) (n : ℕ) (key : Key) (text : List ℕ) (there : OfKey) (e : StandingEntry) → Contains (then_of (told_of d (id_at r n) there text) key text there).known e → IsThen (told_of d (id_at r n) there text) n key text there e
   then_is d n key text there e = told_has (λ t. Contains (then_of t key text there).known e → IsThen t n key text there e) d (id_at r n) there text (record {
-    same = λ i c. inl (c, λ j. refl);
-    superseded = λ i c. inl (c, λ j. refl);
+    same = λ i c. inl (c, λ j g. absurd (true≢false (sym g)));
+    superseded = λ i c. inl (c, λ j g. absurd (true≢false (sym g)));
     entered = λ l c. pushed c;
     beside = λ l c. pushed c;
     revised = λ o l c. elim (in_cons e (entered (id_at r n) key text) [] c) [
       | inl same ↦ inr (same, itself n text (retired there.known))
       | inr later ↦ absurd (none_in e later)
     ];
-    taken = λ i c. inl (c, λ j. refl);
-    spent = λ c. inl (c, λ j. refl);
+    settled = λ i has o l c.
+        let f = in_filter (has_text text) there.known e c in
+        inl (f.0, λ j g. let m = gone_another j text there.known g in (m.0, m.1, m.2, λ s. true≢false (sym (text_itself text m.0.definition (s ∙ same_bytes e.definition text f.1)) ∙ m.3)));
+    taken = λ i c. inl (c, λ j g. absurd (true≢false (sym g)));
+    spent = λ c. inl (c, λ j g. absurd (true≢false (sym g)));
   })
     where
-      pushed : Contains (there.known ++ entered (id_at r n) key text ∷ []) e → (Contains there.known e × ((i : Id) → gone i (Enter text ∷ []) ≡ false)) ⊎ ((e ≡ entered (id_at r n) key text) × (has (numbered r n note (Enter text ∷ [])) (entering (id_at r n) text note) ≡ true))
+      pushed : Contains (there.known ++ entered (id_at r n) key text ∷ []) e → (Contains there.known e × ((i : Id) → gone i (Enter text ∷ []) ≡ true → HasOther there.known e i)) ⊎ ((e ≡ entered (id_at r n) key text) × (has (numbered r n note (Enter text ∷ [])) (entering (id_at r n) text note) ≡ true))
       pushed c = elim (Contains-append_cases there.known (entered (id_at r n) key text ∷ []) e c) [
-        | inl old ↦ inl (old, λ j. refl)
+        | inl old ↦ inl (old, λ j g. absurd (true≢false (sym g)))
         | inr new ↦ elim (in_cons e (entered (id_at r n) key text) [] new) [
           | inl same ↦ inr (same, itself n text [])
           | inr later ↦ absurd (none_in e later)
@@ -168,6 +196,7 @@ module _ (r : List ℕ) (note : List ℕ) where
     entered = λ l h. (first [] (λ g. true≢false (sym g)) h, refl, refl);
     beside = λ l h. (first [] (λ g. true≢false (sym g)) h, refl, refl);
     revised = λ o l h. (first (retired there.known) (λ g. no_enter (n + 1) there.known i other noted g) h, refl, refl);
+    settled = λ j has o l h. absurd (no_enter n (with_another text there.known) i other noted h);
     taken = λ j h. absurd (true≢false (sym h));
     spent = λ h. absurd (true≢false (sym h));
   })
@@ -257,7 +286,12 @@ module _ (x : Content) (one : OneBody x.ops) (os : List Op) (r note : List ℕ) 
       record {
         each = λ k e. at_key (λ o. Contains o.known e → Holds (before ++ bs) e × (key_of e ≡ k)) (bytes_of key) k (then_of t key text there) at
             (λ same c. elim (then_is r note d n key text there e c) [
-              | inl a ↦ let h = s.each (bytes_of key) e a.0 in (still before bs e h.0 (λ _. a.1 e.entry), h.1 ∙ same)
+              | inl a ↦ let h = s.each (bytes_of key) e a.0 in (still before bs e h.0 (λ old. false_from_ne_true _ (λ g.
+                  let m = a.1 e.entry g in
+                  elim (s.each (bytes_of key) m.0 m.1).0 [
+                    | inl b ↦ m.3 (sym (one_text_an_id x e m.0 one old b.0 m.2))
+                    | inr b ↦ apart e m.0 old b m.2
+                  ])), h.1 ∙ same)
               | inr b ↦ (inr (subst (IsNew os note) (sym b.0) (record { entered = within (entering (id_at r n) text note) b.1; keyed = keyed })), ap key_of b.0 ∙ same)
             ])
             (λ other c. let h = s.each k e c in (still before bs e h.0 (others_stand before n at key text k e s other c), h.1));

@@ -51,7 +51,8 @@ use Rattle.reg_import.specs.Imports.{told_of, bodies_of, then_of, imports, Step,
 use Rattle.reg_import.specs.Plans.{AreSteps, Imports, IsImportRefusal}
 use Rattle.reg_import.specs.Again.{HasStanding, standing_texts, AreReadings, RetiresNoneAhead, is_there, IsToldAgain}
 use Rattle.reg_import.proofs.KnownLemmas.{key_itself}
-use Rattle.reg_import.proofs.TextLemmas.{HasText, refused_of_beside, comes_ours}
+use Rattle.reg_import.proofs.ToldLemmas.{HasText}
+use Rattle.reg_import.proofs.TextLemmas.{refused_of_beside, comes_ours}
 use Rattle.reg_import.proofs.AgainLemmas.{at_key, finally, ours_stay, quiet_all}
 use Rattle.reg_import.proofs.StandingLemmas.{in_filter, to_filter, nothing_done, then_one_body, then_kept}
 use Rattle.reg_import.proofs.LastLemmas.{IsKeyed, AreKeyed, SameEntries, same_texts, last_stands, stood_or_read}
@@ -103,7 +104,7 @@ module _ (x y : Content) (replica note again noted : List ℕ) (d : Differs) (ke
   steps_again w alike steps are =
       let unspent : NoneSpent (tolds ran) = subst NoneSpent (m.told ∙ ap tolds m.are_steps.2) m.none_spent in
       let same = same_texts x y replica note d readings es m.ids is ahead keyed m.are_steps.1 does w alike are.0 are.1 in
-      let q = quiet_all d replica (greatest replica x.seen + 1) (by_key es) again (greatest again w.seen + 1) (by_key are.0) readings (λ k o. absurd (true≢false (sym o))) same unspent in
+      let q = quiet_all d replica (greatest replica x.seen + 1) (by_key es) again (greatest again w.seen + 1) (by_key are.0) readings (λ k o. absurd (true≢false (sym o))) (λ is k o. absurd (true≢false (sym o))) same unspent in
       subst ToldAgain (sym are.2) (subst (λ l. IsToldAgain l (tolds (imports d again (greatest again w.seen + 1) (by_key are.0) readings))) (sym (m.told ∙ ap tolds m.are_steps.2)) q.told, q.nothing)
 
   -- into a content with the same entries

@@ -10,6 +10,7 @@ pub mod ImportLemmas
 pub mod QuotedLemmas
 pub mod LineLemmas
 pub mod TextLemmas
+pub mod ReviseLemmas
 pub mod AgainLemmas
 pub mod StandingLemmas
 pub mod GoneLemmas

@@ -2,6 +2,7 @@
 use Rattle.std.proofs.Common.{◌≡◌, ◌≢◌, ℕ, ◌+◌, nat_le, Bool, true, false, not, cond, ◌||◌, List, [], ◌∷◌, ◌++◌, length, Option, Some, None, refl, sym, ap, ◌∙◌, subst, inl, inr, ◌⊎◌, add-zero, arith}
 use Rattle.std.specs.Prelude.{Contains, option_map}
 use Rattle.std.specs.Option.{unwrap_or}
+use Rattle.std.specs.List.{list_any}
 use Rattle.std.proofs.lemmas.Bool.{true≢false, false_from_ne_true, or_cases, or_parts}
 use Rattle.std.proofs.Math.Bool.{or-false}
 use Rattle.crs_value.specs.declared.key.Key.{Key}
@@ -38,28 +39,23 @@ use Rattle.reg_import.specs.declared.action.Problem.TheVariants as problem
 use Rattle.reg_import.specs.declared.action.TextAction.{TextAction}
 use Rattle.reg_import.specs.declared.action.TextAction.TheVariants as told
 use Rattle.reg_import.specs.Known.{AreStanding, OfKey, At, is_key, key_of, by_key, with_key}
-use Rattle.reg_import.specs.Imports.{least, any_entry, sooner, has_text, has_text_and_is_valid, unless_spent, told_of_new, told_of, bodies_of, entered, then_of, imports, effects}
+use Rattle.reg_import.specs.Imports.{least, any_entry, sooner, has_text, has_text_and_is_valid, with_another, told_of_new, told_of_found, told_of, bodies_of, entered, then_of, imports, tolds, effects, is_refused, is_spent, NoneSpent}
 use Rattle.reg_import.specs.Plans.{Imports}
 use Rattle.reg_import.specs.Again.{HasStanding, RetiresNoneAhead, AreReadings}
-use Rattle.reg_import.specs.Modes.{MakesNoConflict, RetiresNothing, LeavesOneText}
+use Rattle.reg_import.specs.Modes.{MakesNoConflict, RetiresNothing, LeavesOneText, StandsAlone, StandAlone}
 use Rattle.reg_import.proofs.KnownLemmas.{same_key, key_itself}
 use Rattle.reg_import.proofs.FreshLemmas.{imports_once}
-use Rattle.reg_import.proofs.TextLemmas.{HasText}
-use Rattle.reg_import.proofs.AgainLemmas.{at_key, finally}
+use Rattle.reg_import.proofs.ToldLemmas.{HasText, or_else, has_unless}
+use Rattle.reg_import.proofs.TextLemmas.{comes_ours}
+use Rattle.reg_import.proofs.ReviseLemmas.{OneText, one_alone, pushed_alone, IsOneOurs, becomes_one, revise_has}
+use Rattle.reg_import.proofs.AgainLemmas.{at_key, finally, ours_stay, one_stays}
 use Rattle.reg_import.proofs.StandingLemmas.{in_filter, to_filter, one_key, IsOld, standing_is_old, old_is_standing, entered_stands, standing_entry, gone, was_entered, then_retired}
 use Rattle.reg_import.proofs.LawLemmas.{are_keyed}
-use Rattle.reg_import.proofs.LastLemmas.{AreKeyed, gone_both, once_gone, old_stay, has_both, enters_there, entered_is}
+use Rattle.reg_import.proofs.LastLemmas.{AreKeyed, gone_both, once_gone, old_stay, has_both, no_enter, enters_there, entered_is, last_stands}
 
 -- ---- the action for a text, in each mode
 
 module _ (P : TextAction → Type 0) where
-  or_else : (f : Id → TextAction) (o : Option Id) (t : TextAction) → ((i : Id) → P (f i)) → P t → P (unwrap_or (option_map f o) t)
-  or_else f None t h k = k
-  or_else f (Some i) t h k = h i
-
-  has_unless : (last : ℕ) (t : TextAction) → P told.Spent → P t → P (unless_spent last t)
-  has_unless last t s h = elim (nat_le last 4294967295) as (λ b. P (cond b t told.Spent)) [ true ↦ h | false ↦ s ]
-
   -- a property that each of these actions has, the action for a text has
   record Each (new : Id) (there : OfKey) : Type 0 where
     same : (i : Id) → P (told.Same i)
@@ -68,27 +64,22 @@ module _ (P : TextAction → Type 0) where
     taken : (i : Id) → P (told.Refused (problem.KeyTaken i))
     spent : P told.Spent
 
-  told_has : (d : Differs) (new : Id) (there : OfKey) (text : List ℕ) → Each new there → ((other : Id) → P (told_of_new (Some other) d new there)) → P (told_of d new there text)
-  told_has d new there text h some =
-      or_else told.Same (least (has_text_and_is_valid text) there.known) _ h.same
-      (or_else told.Superseded (least (has_text text) there.known) _ h.superseded (by_known there.known refl))
+  -- in these modes a text that an entry has is reported with it
+  told_has : (d : Differs) (new : Id) (there : OfKey) (text : List ℕ) → ((known : TextAction) (i : Id) → P known → P (told_of_found known d new there (with_another text there.known) i)) → Each new there
+      → ((other : Id) → P (told_of_new (Some other) d new there)) → P (told_of d new there text)
+  told_has d new there text found h some =
+      or_else P (λ i. told_of_found (told.Same i) d new there (with_another text there.known) i) (least (has_text_and_is_valid text) there.known) _ (λ i _. found (told.Same i) i (h.same i))
+      (or_else P (λ i. told_of_found (told.Superseded i) d new there (with_another text there.known) i) (least (has_text text) there.known) _ (λ i _. found (told.Superseded i) i (h.superseded i)) (by_known there.known refl))
     where
       by_known : (known : List StandingEntry) → there.known ≡ known → P (told_of_new (least any_entry known) d new there)
-      by_known [] e = has_unless new.count (told.Entered new) h.spent (h.entered e)
+      by_known [] e = has_unless P new.count (told.Entered new) h.spent (λ _. h.entered e)
       by_known (k ∷ ks) e = some (sooner k.entry (least any_entry ks))
 
   refuse_has : (new : Id) (there : OfKey) (text : List ℕ) → Each new there → P (told_of differs.Refuse new there text)
-  refuse_has new there text h = told_has differs.Refuse new there text h h.taken
+  refuse_has new there text h = told_has differs.Refuse new there text (λ known i k. k) h h.taken
 
   beside_has : (new : Id) (there : OfKey) (text : List ℕ) → Each new there → P (told.Beside new) → P (told_of differs.Beside new there text)
-  beside_has new there text h b = told_has differs.Beside new there text h (λ other. has_unless new.count (told.Beside new) h.spent b)
-
-  revise_has : (new : Id) (there : OfKey) (text : List ℕ) → Each new there → P (told.Revised new) → P (told_of differs.Revise new there text)
-  revise_has new there text h r = told_has differs.Revise new there text h (λ other.
-      elim there.ours as (λ b. P (cond b (told.Refused (problem.KeyTaken other)) (unless_spent (new.count + length there.known) (told.Revised new)))) [
-        | true ↦ h.taken other
-        | false ↦ has_unless (new.count + length there.known) (told.Revised new) h.spent r
-      ])
+  beside_has new there text h b = told_has differs.Beside new there text (λ known i k. k) h (λ other. has_unless P new.count (told.Beside new) h.spent (λ _. b))
 
 -- ---- nothing is retired, but by `revise`
 
@@ -112,18 +103,6 @@ gone_none d q i r n at (reading.Defined text key ∷ texts) =
 
 -- ---- one text of a key
 
-abbrev pub OneText : List StandingEntry → Type 0
-OneText es = (e f : StandingEntry) → Contains es e → Contains es f → e.definition ≡ f.definition
-
-one_alone : (e : StandingEntry) → OneText (e ∷ [])
-one_alone e a b c d = ap (λ (g : StandingEntry). g.definition) (it a c ∙ sym (it b d))
-  where
-    it : (g : StandingEntry) → Contains (e ∷ []) g → g ≡ e
-    it g h = elim (in_cons g e [] h) [ inl same ↦ same | inr later ↦ absurd (none_in g later) ]
-
-pushed_alone : (known : List StandingEntry) (e : StandingEntry) → known ≡ [] → OneText (known ++ e ∷ [])
-pushed_alone known e none = subst (λ l. OneText (l ++ e ∷ [])) (sym none) (one_alone e)
-
 -- the texts of the key's entries are among those of the first ones, or there is one text
 abbrev Kept : OfKey → OfKey → Type 0
 Kept first there = ((text : List ℕ) → HasText there.known text → HasText first.known text) ⊎ OneText there.known
@@ -146,25 +125,19 @@ refuse_all first k r n at (reading.Defined text key ∷ texts) h =
     refuse_all first k r (n + length (bodies_of t text there.known)) (with_key (bytes_of key) (then_of t key text there) at) texts
     (at_key (Kept first) (bytes_of key) k (then_of t key text there) at (λ same. refuse_on first there (id_at r n) key text (subst (λ l. Kept first (at l)) (sym same) h)) (λ _. h))
 
--- ---- one text stays one text in mode `revise`
+-- ---- texts that `revise` enters, or that it finds
 
-revise_on : (there : OfKey) (new : Id) (key : Key) (text : List ℕ) → OneText there.known → OneText (then_of (told_of differs.Revise new there text) key text there).known
-revise_on there new key text k = revise_has (λ t. OneText (then_of t key text there).known) new there text (record {
-  same = λ i. k;
-  superseded = λ i. k;
-  entered = λ e. pushed_alone there.known (entered new key text) e;
-  taken = λ i. k;
-  spent = k;
-}) (one_alone (entered new key text))
+-- one of the last entries of a key has the text, and none has another
+record IsLast (last : At) (key : Key) (text : List ℕ) : Type 0 where
+  there : HasText (last (bytes_of key)).known text
+  alone : OneText (last (bytes_of key)).known
 
-one_stays : (k : KeyBytes) (r : List ℕ) (n : ℕ) (at : At) (texts : List ReadText) → OneText (at k).known → OneText (finally differs.Revise r n at texts k).known
-one_stays k r n at [] h = h
-one_stays k r n at (reading.Unread f ∷ texts) h = one_stays k r (n + 0) at texts h
-one_stays k r n at (reading.Defined text key ∷ texts) h =
-    let there : OfKey = at (bytes_of key) in
-    let t : TextAction = told_of differs.Revise (id_at r n) there text in
-    one_stays k r (n + length (bodies_of t text there.known)) (with_key (bytes_of key) (then_of t key text there) at) texts
-    (at_key (λ o. OneText o.known) (bytes_of key) k (then_of t key text there) at (λ same. revise_on there (id_at r n) key text (subst (λ l. OneText (at l).known) (sym same) h)) (λ _. h))
+-- so it is of each text that was read and not refused
+abbrev AreLast : At → List ReadText → List TextAction → Type 0
+AreLast last [] ts = Unit {0}
+AreLast last (text ∷ texts) [] = Unit {0}
+AreLast last (reading.Unread f ∷ texts) (t ∷ ts) = AreLast last texts ts
+AreLast last (reading.Defined text key ∷ texts) (t ∷ ts) = (is_refused t ≡ false → IsLast last key text) × AreLast last texts ts
 
 module _ (r : List ℕ) (note : List ℕ) where
   -- a text that is entered is the only one of its key then
@@ -172,12 +145,14 @@ module _ (r : List ℕ) (note : List ℕ) where
       → has (numbered r n note (bodies_of (told_of differs.Revise (id_at r n) there text) text there.known)) (entering i other noted) ≡ true
       → OneText (then_of (told_of differs.Revise (id_at r n) there text) key text there).known
   entered_alone n key text there i other noted = revise_has (λ t. has (numbered r n note (bodies_of t text there.known)) (entering i other noted) ≡ true → OneText (then_of t key text there).known) (id_at r n) there text (record {
-    same = λ j h. absurd (true≢false (sym h));
-    superseded = λ j h. absurd (true≢false (sym h));
+    same = λ j _ h. absurd (true≢false (sym h));
+    superseded = λ j _ h. absurd (true≢false (sym h));
+    settled = λ j h. absurd (no_enter r note n (with_another text there.known) i other noted h);
     entered = λ e h. pushed_alone there.known (entered (id_at r n) key text) e;
+    revised = λ h. one_alone (entered (id_at r n) key text);
     taken = λ j h. absurd (true≢false (sym h));
     spent = λ h. absurd (true≢false (sym h));
-  }) (λ h. one_alone (entered (id_at r n) key text))
+  })
 
   -- and stays it to the end
   record IsAlone (last : At) (text : List ℕ) : Type 0 where
@@ -202,10 +177,30 @@ module _ (r : List ℕ) (note : List ℕ) where
         | inl a ↦ record {
           key = key;
           keyed = subst (IsKeyIn key) (sym (entered_is r note differs.Revise n text there i other noted a).0) keyed.0;
-          alone = one_stays (bytes_of key) r (n + length bs) next texts (subst (λ (o : OfKey). OneText o.known) here (entered_alone n key text there i other noted a));
+          alone = one_stays differs.Revise refl (bytes_of key) r (n + length bs) next texts (subst (λ (o : OfKey). OneText o.known) here (entered_alone n key text there i other noted a));
         }
         | inr b ↦ alone_there (n + length bs) next texts i other noted keyed.1 b
       ]
+
+  all_last : (n : ℕ) (at : At) (texts : List ReadText) → ((k : KeyBytes) → IsOneOurs (at k)) → NoneSpent (tolds (imports differs.Revise r n at texts)) → AreLast (finally differs.Revise r n at texts) texts (tolds (imports differs.Revise r n at texts))
+  all_last n at [] one unspent = tt
+  all_last n at (reading.Unread f ∷ texts) one unspent = all_last (n + 0) at texts one unspent
+  all_last n at (reading.Defined text key ∷ texts) one unspent =
+      let k : KeyBytes = bytes_of key in
+      let there : OfKey = at k in
+      let t : TextAction = told_of differs.Revise (id_at r n) there text in
+      let bs : List Body = bodies_of t text there.known in
+      let now : OfKey = then_of t key text there in
+      let next : At = with_key k now at in
+      let parts = or_parts (is_spent t) (list_any is_spent (tolds (imports differs.Revise r (n + length bs) next texts))) unspent in
+      let here : now ≡ next k = at_key (λ o. now ≡ o) k k now at (λ _. refl) (λ no. absurd (true≢false (sym (key_itself k k refl) ∙ no))) in
+      let becomes : IsOneOurs now = becomes_one differs.Revise refl there (id_at r n) key text (one k) in (
+        λ came.
+            let c = comes_ours differs.Revise (id_at r n) there text key came parts.0 in
+            let stay = ours_stay differs.Revise r (n + length bs) next texts k c.0.0 (sym (ap (λ (o : OfKey). o.ours) here) ∙ c.1) (subst (λ (o : OfKey). Contains o.known c.0.0) here c.0.1) in
+            record { there = (c.0.0, stay, c.0.2); alone = one_stays differs.Revise refl k r (n + length bs) next texts (subst (λ (o : OfKey). OneText o.known) here (becomes c.1)) },
+        all_last (n + length bs) next texts (λ l. at_key IsOneOurs k l now at (λ _. becomes) (λ _. one l)) parts.1,
+      )
 
 -- ---- an import
 
@@ -252,6 +247,23 @@ module _ (x y : Content) (replica note : List ℕ) (d : Differs) (texts : List R
             let end = enters_there replica note d first (by_key es) texts i text o.note keyed (subst (λ l. has l (entering i text o.note) ≡ true) (made_are x replica note all does.ops does.are_made) new) in
             subst (λ l. HasText (last l).known text) (one_key text end.key key end.keyed in_text ∙ of_key) end.there
       ]
+
+  -- a text that is alone among the last ones of its key stands alone
+  one_there : RetiresNoneAhead x replica → (text : List ℕ) (key : Key) → IsKeyIn key text → IsLast last key text → StandsAlone y text
+  one_there ahead text key of_key its = record {
+    stands = last_stands x y replica note d texts es ids is ahead keyed are does (bytes_of key) text its.there;
+    only = λ k other there stands of_text of_other.
+        let here : bytes_of key ≡ k = one_key text key of_text.0 of_key of_text.1 ∙ of_text.2 in
+        let a = subst (λ l. HasText (last l).known text) here its.there in
+        let b = in_last k other.definition of_other (as_standing y.ops other there stands) in
+        sym b.2 ∙ subst (λ l. OneText (last l).known) here its.alone b.0 a.0 b.1 a.1 ∙ a.2;
+  }
+
+  pub all_alone : RetiresNoneAhead x replica → (read : List ReadText) (ts : List TextAction) → AreKeyed read → AreLast last read ts → StandAlone y read ts
+  all_alone ahead [] ts of_keys h = tt
+  all_alone ahead (text ∷ read) [] of_keys h = tt
+  all_alone ahead (reading.Unread f ∷ read) (t ∷ ts) of_keys h = all_alone ahead read ts of_keys.1 h
+  all_alone ahead (reading.Defined text key ∷ read) (t ∷ ts) of_keys h = (λ came. one_there ahead text key of_keys.0 (h.0 came), all_alone ahead read ts of_keys.1 h.1)
 
   pub retires_same : ((i : Id) → gone i all ≡ false) → RetiresNothing x y
   retires_same none i = then_retired x y replica note all ids does i ∙ ap (λ b. retires x.ops i || b) (none i) ∙ or-false (retires x.ops i)
@@ -340,6 +352,14 @@ revise_leaves_one x y replica note texts es ids is ahead keyed are does row come
           }
     ]
 
+pub revise_stands_alone : (x y : Content) (replica note : List ℕ) (texts : List ReadText) (es : List StandingEntry) (ids : List Id) → IsContent x → RetiresNoneAhead x replica → AreKeyed texts → AreStanding x.ops es
+    → Does x replica note (effects (imports differs.Revise replica (greatest replica x.seen + 1) (by_key es) texts)) y ids → NoneSpent (tolds (imports differs.Revise replica (greatest replica x.seen + 1) (by_key es) texts))
+    → StandAlone y texts (tolds (imports differs.Revise replica (greatest replica x.seen + 1) (by_key es) texts))
+revise_stands_alone x y replica note texts es ids is ahead keyed are does unspent =
+    let at : ℕ = greatest replica x.seen + 1 in
+    all_alone x y replica note differs.Revise texts es ids is keyed are does ahead texts (tolds (imports differs.Revise replica at (by_key es) texts)) keyed
+    (all_last replica note at (by_key es) texts (λ k o. absurd (true≢false (sym o))) unspent)
+
 -- ---- of an import of texts
 
 module _ (x y : Content) (replica note : List ℕ) (keep_going : Bool) (texts : List (List ℕ)) (readings : List ReadText) (ts : List TextAction) (is : IsContent x) (are : AreReadings texts readings) where
@@ -360,3 +380,8 @@ module _ (x y : Content) (replica note : List ℕ) (keep_going : Bool) (texts : 
 
   pub revised : RetiresNoneAhead x replica → Imports x replica note differs.Revise keep_going readings y ts → LeavesOneText x y
   revised ahead i = revise_leaves_one x y replica note readings i.are_steps.0 i.ids is ahead keyed i.are_steps.1 (does_of differs.Revise i)
+
+  pub revised_alone : RetiresNoneAhead x replica → Imports x replica note differs.Revise keep_going readings y ts → StandAlone y readings ts
+  revised_alone ahead i =
+      let same : ts ≡ tolds (imports differs.Revise replica (greatest replica x.seen + 1) (by_key i.are_steps.0) readings) = i.told ∙ ap tolds i.are_steps.2 in
+      subst (StandAlone y readings) (sym same) (revise_stands_alone x y replica note readings i.are_steps.0 i.ids is ahead keyed i.are_steps.1 (does_of differs.Revise i) (subst NoneSpent same i.none_spent))

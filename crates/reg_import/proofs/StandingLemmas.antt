@@ -170,13 +170,15 @@ old_is_standing s es i text note are h n =
     let m = row_known (filter stands (rows s)) es r are (to_filter stands (rows s) r up.0 up.1) in
     record { e = m.0; there = m.1; entry = m.2.entry; definition = m.2.definition; keyed = m.2.keyed }
 
--- entries of a content that have one id have one key
-pub one_key_an_id : (x : Content) (e f : StandingEntry) → OneBody x.ops → IsOld x e → IsOld x f → e.entry ≡ f.entry → key_of e ≡ key_of f
-one_key_an_id x e f one a b same =
+-- entries of a content that have one id have one text, and one key
+pub one_text_an_id : (x : Content) (e f : StandingEntry) → OneBody x.ops → IsOld x e → IsOld x f → e.entry ≡ f.entry → e.definition ≡ f.definition
+one_text_an_id x e f one a b same =
     let ops : entering e.entry e.definition a.note ≡ entering f.entry f.definition b.note = one (entering e.entry e.definition a.note) (entering f.entry f.definition b.note) a.entered b.entered same in
     let bodies : ◌≡◌ {A = Body} (Enter e.definition) (Enter f.definition) = ap (λ (o : Op). o.body) ops in
-    let texts : e.definition ≡ f.definition = cc in
-    one_key e.definition e.key f.key a.keyed (subst (IsKeyIn f.key) (sym texts) b.keyed)
+    cc
+
+pub one_key_an_id : (x : Content) (e f : StandingEntry) → OneBody x.ops → IsOld x e → IsOld x f → e.entry ≡ f.entry → key_of e ≡ key_of f
+one_key_an_id x e f one a b same = one_key e.definition e.key f.key a.keyed (subst (IsKeyIn f.key) (sym (one_text_an_id x e f one a b same)) b.keyed)
 
 -- ---- the texts of entries that are not retired
 

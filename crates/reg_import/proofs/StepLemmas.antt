@@ -24,7 +24,7 @@ use Rattle.reg_import.specs.Index.{key_bytes, entries_seen, nothing_there, Index
 use Rattle.reg_op.specs.Ids.{Id}
 use Rattle.reg_import.specs.declared.summary.Found.{Found}
 use Rattle.reg_import.specs.Summary.{found, told_by}
-use Rattle.reg_import.specs.Imports.{least, any_entry, told_of, bodies_of, then_of}
+use Rattle.reg_import.specs.Imports.{least, any_entry, with_another, told_of, bodies_of, then_of}
 use Rattle.reg_import.specs.Plans.{StepsOn}
 use Rattle.reg_import.proofs.NumberedLemmas.{length_numbered}
 use Rattle.reg_import.proofs.KnownLemmas.{put_again}
@@ -41,13 +41,14 @@ fits_told d r n there text h =
       entered = λ l. omega arith;
       beside = λ l. omega arith;
       revised = λ o l. omega (arith, l, length_map (λ (e : StandingEntry). Retire e.entry) there.known);
+      settled = λ i has o l. omega (arith, l, length_map (λ (e : StandingEntry). Retire e.entry) (with_another text there.known));
       taken = λ i. omega arith;
       spent = omega arith;
     })
 
 -- the action that is found by the least entries with the text is the action for the text
-pub told_is : (d : Differs) (new : Id) (there : OfKey) (text : List ℕ) (f : Found) (t : TextAction) → f ≡ found text there.known → t ≡ told_by f (least any_entry there.known) d new there → t ≡ told_of d new there text
-told_is d new there text f t e is = is ∙ ap (λ g. told_by g (least any_entry there.known) d new there) e
+pub told_is : (d : Differs) (new : Id) (there : OfKey) (text : List ℕ) (f : Found) (t : TextAction) → f ≡ found text there.known → t ≡ told_by f (least any_entry there.known) d new there (with_another text there.known) → t ≡ told_of d new there text
+told_is d new there text f t e is = is ∙ ap (λ g. told_by g (least any_entry there.known) d new there (with_another text there.known)) e
 
 pub told_fits : (d : Differs) (r : List ℕ) (n : ℕ) (there : OfKey) (text given : List ℕ) (t : TextAction) → t ≡ told_of d (id_at r n) there given → given ≡ text → n ≤ 4294967296 → n + length (bodies_of t text there.known) ≤ 4294967296
 told_fits d r n there text given t e same h = subst (λ u. n + length (bodies_of u text there.known) ≤ 4294967296) (sym (e ∙ ap (told_of d (id_at r n) there) same)) (fits_told d r n there text h)

@@ -3,10 +3,10 @@ use Rattle.std.proofs.Common.{◌≡◌, ℕ, ◌+◌, nat_eq, nat_le, Bool, tru
 use Rattle.std.specs.Prelude.{option_map, Contains}
 use Rattle.std.specs.Option.{unwrap_or}
 use Rattle.std.specs.Cmp.Lexicographic.{pointwise}
-use Rattle.std.proofs.lemmas.Bool.{true≢false, and_parts, true_from_ne_false}
+use Rattle.std.proofs.lemmas.Bool.{true≢false, true_from_ne_false}
 use Rattle.std.proofs.lemmas.List.Elements.{Contains-append_left, Contains-append_right}
 use Rattle.crs_value.specs.declared.key.Key.{Key}
-use Rattle.wkt_crs.proofs.Defining.{same_bytes, not_same}
+use Rattle.wkt_crs.proofs.Defining.{not_same}
 use Rattle.reg_op.specs.Ids.{Id}
 use Rattle.reg_report.proofs.ConflictLemmas.{none_in, in_cons, in_head, in_tail}
 use Rattle.reg_import.specs.declared.standing_entry.StandingEntry.{StandingEntry}
@@ -16,22 +16,12 @@ use Rattle.reg_import.specs.declared.action.Problem.TheVariants as problem
 use Rattle.reg_import.specs.declared.action.TextAction.{TextAction}
 use Rattle.reg_import.specs.declared.action.TextAction.TheVariants as told
 use Rattle.reg_import.specs.Known.{OfKey}
-use Rattle.reg_import.specs.Imports.{has_text, has_text_and_is_valid, any_entry, sooner, least, unless_spent, told_of_new, told_of, bodies_of, entered, then_of, is_refused, is_spent}
+use Rattle.reg_import.specs.Imports.{has_text, has_text_and_is_valid, with_text, with_another, any_entry, sooner, least, unless_spent, told_of_new, told_of_found, told_of, bodies_of, entered, then_of, is_refused, is_spent}
 use Rattle.reg_import.specs.Again.{is_there}
-use Rattle.reg_import.proofs.ToldLemmas.{told_has}
-
--- an entry has the text
-abbrev pub HasText : List StandingEntry → List ℕ → Type 0
-HasText es text = (e : StandingEntry) × Contains es e × (e.definition ≡ text)
+use Rattle.reg_import.proofs.StandingLemmas.{to_filter}
+use Rattle.reg_import.proofs.ToldLemmas.{HasText, least_some, has_valid, has_any, told_has}
 
 -- ---- the least of some entries
-
-least_some : (passes : StandingEntry → Bool) (es : List StandingEntry) (i : Id) → least passes es ≡ Some i → (e : StandingEntry) × Contains es e × (passes e ≡ true)
-least_some passes [] i h = absurd cc
-least_some passes (e ∷ es) i h = elim (passes e) as (λ b. passes e ≡ b → cond b (Some (sooner e.entry (least passes es))) (least passes es) ≡ Some i → (f : StandingEntry) × Contains (e ∷ es) f × (passes f ≡ true)) [
-  | true ↦ λ t _. (e, in_head e es, t)
-  | false ↦ λ _ g. let m = least_some passes es i g in (m.0, in_tail m.0 e es m.1, m.2)
-] refl h
 
 least_none : (passes : StandingEntry → Bool) (es : List StandingEntry) → least passes es ≡ None → (e : StandingEntry) → Contains es e → passes e ≡ true → ⊥
 least_none passes [] h e c t = none_in e c
@@ -43,7 +33,7 @@ least_none passes (f ∷ es) h e c t = elim (passes f) as (λ b. passes f ≡ b 
   ]
 ] refl h
 
-text_itself : (text other : List ℕ) → other ≡ text → pointwise nat_eq other text ≡ true
+pub text_itself : (text other : List ℕ) → other ≡ text → pointwise nat_eq other text ≡ true
 text_itself text other e = true_from_ne_false _ (λ n. not_same other text n e)
 
 -- ---- actions that find the text, and actions that refuse it
@@ -96,6 +86,10 @@ blocks_more (Some i) j differs.Refuse ours more h k = refl
 blocks_more (Some i) j differs.Beside ours more h k = absurd (true≢false (sym h))
 blocks_more (Some i) j differs.Revise ours more h k = k h
 
+blocks_none : (o : Option Id) → blocks o differs.Revise false ≡ true → ⊥
+blocks_none None h = true≢false (sym h)
+blocks_none (Some i) h = true≢false (sym h)
+
 some_blocks : (o : Option Id) (d : Differs) (ours : Bool) → blocks o d ours ≡ true → (i : Id) × (o ≡ Some i)
 some_blocks None d ours h = absurd (true≢false (sym h))
 some_blocks (Some i) d ours h = (i, refl)
@@ -125,6 +119,19 @@ new_not_there (Some other) differs.Revise new there =
 
 -- ---- one text
 
+-- the action for a text that an entry has is this one, or others of its key are retired, or there are too few numbers for that
+found_cases : (d : Differs) (known : TextAction) (new : Id) (there : OfKey) (others : List StandingEntry) (i : Id)
+    → (told_of_found known d new there others i ≡ known) ⊎ ((d ≡ differs.Revise) × (there.ours ≡ false) × (others ≡ [] → ⊥) × (is_refused (told_of_found known d new there others i) ≡ false))
+found_cases differs.Refuse known new there others i = inl refl
+found_cases differs.Beside known new there others i = inl refl
+found_cases differs.Revise known new there [] i = inl refl
+found_cases differs.Revise known new there (other ∷ others) i =
+    let settled : TextAction = unless_spent (new.count + length others) (told.Settled i) in
+    elim there.ours as (λ b. there.ours ≡ b → (cond b known settled ≡ known) ⊎ ((differs.Revise ≡ differs.Revise) × (there.ours ≡ false) × ((other ∷ others) ≡ [] → ⊥) × (is_refused (cond b known settled) ≡ false))) [
+      | true ↦ λ _. inl refl
+      | false ↦ λ free. inr (refl, free, (λ e. cc), unless_not is_refused (new.count + length others) (told.Settled i) refl refl)
+    ] refl
+
 module _ (d : Differs) (new : Id) (there : OfKey) (text : List ℕ) where
   abbrev its : TextAction
   its = told_of d new there text
@@ -132,14 +139,29 @@ module _ (d : Differs) (new : Id) (there : OfKey) (text : List ℕ) where
   abbrev otherwise : TextAction
   otherwise = told_of_new (least any_entry there.known) d new there
 
-  -- an entry of the key has the text and the action finds it; or none has it and the action is that for a new text
-  abbrev AsThere : TextAction → Type 0
-  AsThere t = ((is_there t ≡ true) × HasText there.known text) ⊎ ((HasText there.known text → ⊥) × (t ≡ otherwise))
+  -- an entry of the key has the text, and in mode `revise` others are retired, or there are too few numbers for that
+  record Settles (t : TextAction) : Type 0 where
+    revise : d ≡ differs.Revise
+    free : there.ours ≡ false
+    has : HasText there.known text
+    others : with_another text there.known ≡ [] → ⊥
+    passes : is_refused t ≡ false
 
-  by_entries : (v a : Option Id) → least (has_text_and_is_valid text) there.known ≡ v → least (has_text text) there.known ≡ a → AsThere (unwrap_or (option_map told.Same v) (unwrap_or (option_map told.Superseded a) otherwise))
-  by_entries (Some i) a e f = let m = least_some (has_text_and_is_valid text) there.known i e in inl (refl, (m.0, m.1, same_bytes m.0.definition text (and_parts _ _ m.2).0))
-  by_entries None (Some i) e f = let m = least_some (has_text text) there.known i f in inl (refl, (m.0, m.1, same_bytes m.0.definition text m.2))
-  by_entries None None e f = inr (λ h. least_none (has_text text) there.known f h.0 h.1 (text_itself text h.0.definition h.2), refl)
+  -- an entry of the key has the text and the action finds it, or settles it; or none has it and the action is that for a new text
+  abbrev AsThere : TextAction → Type 0
+  AsThere t = ((is_there t ≡ true) × HasText there.known text) ⊎ (Settles t ⊎ ((HasText there.known text → ⊥) × (t ≡ otherwise)))
+
+  by_found : (known : TextAction) (i : Id) → is_there known ≡ true → is_refused known ≡ false → HasText there.known text → AsThere (told_of_found known d new there (with_another text there.known) i)
+  by_found known i found passes has = elim (found_cases d known new there (with_another text there.known) i) [
+    | inl same ↦ inl (ap is_there same ∙ found, has)
+    | inr s ↦ inr (inl (record { revise = s.0; free = s.1; has = has; others = s.2; passes = s.3 }))
+  ]
+
+  by_entries : (v a : Option Id) → least (has_text_and_is_valid text) there.known ≡ v → least (has_text text) there.known ≡ a
+      → AsThere (unwrap_or (option_map (λ i. told_of_found (told.Same i) d new there (with_another text there.known) i) v) (unwrap_or (option_map (λ i. told_of_found (told.Superseded i) d new there (with_another text there.known) i) a) otherwise))
+  by_entries (Some i) a e f = by_found (told.Same i) i refl refl (has_valid text there.known i e)
+  by_entries None (Some i) e f = by_found (told.Superseded i) i refl refl (has_any text there.known i f)
+  by_entries None None e f = inr (inr (λ h. least_none (has_text text) there.known f h.0 h.1 (text_itself text h.0.definition h.2), refl))
 
   told_cases : AsThere its
   told_cases = by_entries (least (has_text_and_is_valid text) there.known) (least (has_text text) there.known) refl refl
@@ -147,25 +169,47 @@ module _ (d : Differs) (new : Id) (there : OfKey) (text : List ℕ) where
   pub text_of_there : is_there its ≡ true → HasText there.known text
   text_of_there h = elim told_cases [
     | inl a ↦ a.1
-    | inr b ↦ absurd (true≢false (sym h ∙ ap is_there b.1 ∙ new_not_there (least any_entry there.known) d new there))
+    | inr b ↦ elim b [
+      | inl s ↦ s.has
+      | inr n ↦ absurd (true≢false (sym h ∙ ap is_there n.1 ∙ new_not_there (least any_entry there.known) d new there))
+    ]
   ]
 
-  pub there_of_text : HasText there.known text → is_there its ≡ true
-  there_of_text h = elim told_cases [ inl a ↦ a.0 | inr b ↦ absurd (b.0 h) ]
+  -- a text that an entry has is found, unless others of its key are retired
+  pub there_of_text : HasText there.known text → (d ≡ differs.Revise → with_another text there.known ≡ []) → is_there its ≡ true
+  there_of_text h alone = elim told_cases [
+    | inl a ↦ a.0
+    | inr b ↦ elim b [
+      | inl s ↦ absurd (s.others (alone s.revise))
+      | inr n ↦ absurd (n.0 h)
+    ]
+  ]
 
   pub not_of_refused : is_refused its ≡ true → HasText there.known text → ⊥
-  not_of_refused h has = true≢false (sym h ∙ there_not_refused its (there_of_text has))
+  not_of_refused h has = elim told_cases [
+    | inl a ↦ true≢false (sym h ∙ there_not_refused its a.0)
+    | inr b ↦ elim b [
+      | inl s ↦ true≢false (sym h ∙ s.passes)
+      | inr n ↦ n.0 has
+    ]
+  ]
 
   pub blocks_of_refused : is_refused its ≡ true → blocks (least any_entry there.known) d there.ours ≡ true
   blocks_of_refused h = elim told_cases [
     | inl a ↦ absurd (true≢false (sym h ∙ there_not_refused its a.0))
-    | inr b ↦ sym (new_refused (least any_entry there.known) d new there) ∙ ap is_refused (sym b.1) ∙ h
+    | inr b ↦ elim b [
+      | inl s ↦ absurd (true≢false (sym h ∙ s.passes))
+      | inr n ↦ sym (new_refused (least any_entry there.known) d new there) ∙ ap is_refused (sym n.1) ∙ h
+    ]
   ]
 
   pub refused_of_blocks : (HasText there.known text → ⊥) → blocks (least any_entry there.known) d there.ours ≡ true → is_refused its ≡ true
   refused_of_blocks n h = elim told_cases [
     | inl a ↦ absurd (n a.1)
-    | inr b ↦ ap is_refused b.1 ∙ new_refused (least any_entry there.known) d new there ∙ h
+    | inr b ↦ elim b [
+      | inl s ↦ absurd (n s.has)
+      | inr m ↦ ap is_refused m.1 ∙ new_refused (least any_entry there.known) d new there ∙ h
+    ]
   ]
 
   abbrev Closed : OfKey → Type 0
@@ -176,7 +220,10 @@ module _ (d : Differs) (new : Id) (there : OfKey) (text : List ℕ) where
       → ((then_of its key text there).known ≡ there.known) × (blocks (least any_entry (then_of its key text there).known) d (then_of its key text there).ours ≡ true)
   closed_on key h = elim told_cases [
     | inl a ↦ subst Closed (sym (there_then its key text there a.0)) (refl, blocks_ours (least any_entry there.known) d there.ours h)
-    | inr b ↦ subst Closed (sym (refused_then its key text there (ap is_refused b.1 ∙ new_refused (least any_entry there.known) d new there ∙ h))) (refl, h)
+    | inr b ↦ elim b [
+      | inl s ↦ absurd (blocks_none (least any_entry there.known) (subst (λ o. blocks (least any_entry there.known) differs.Revise o ≡ true) s.free (subst (λ e. blocks (least any_entry there.known) e there.ours ≡ true) s.revise h)))
+      | inr n ↦ subst Closed (sym (refused_then its key text there (ap is_refused n.1 ∙ new_refused (least any_entry there.known) d new there ∙ h))) (refl, h)
+    ]
   ]
 
   abbrev Comes : Key → TextAction → Type 0
@@ -190,6 +237,7 @@ module _ (d : Differs) (new : Id) (there : OfKey) (text : List ℕ) where
     entered = λ l a b h. (behind, refl);
     beside = λ l a b h. (behind, refl);
     revised = λ o l a b h. ((entered new key text, in_head (entered new key text) [], refl), refl);
+    settled = λ i has o l a b h. ((has.0, to_filter (has_text text) there.known has.0 has.1 (text_itself text has.0.definition has.2), has.2), refl);
     taken = λ i a b h. absurd (true≢false a);
     spent = λ a b h. absurd (true≢false b);
   }) r s text_of_there
@@ -205,6 +253,7 @@ module _ (d : Differs) (new : Id) (there : OfKey) (text : List ℕ) where
     entered = λ l. (Contains-append_left there.known (entered new key text ∷ []) e c, refl);
     beside = λ l. (Contains-append_left there.known (entered new key text ∷ []) e c, refl);
     revised = λ free l. absurd (true≢false (sym o ∙ free));
+    settled = λ i has free l. absurd (true≢false (sym o ∙ free));
     taken = λ i. (c, o);
     spent = (c, o);
   })
@@ -224,7 +273,10 @@ blocks_on d es fs ours more h within k =
 pub refused_of_beside : (new : Id) (there : OfKey) (text : List ℕ) → is_refused (told_of differs.Beside new there text) ≡ false
 refused_of_beside new there text = elim (told_cases differs.Beside new there text) [
   | inl a ↦ there_not_refused (told_of differs.Beside new there text) a.0
-  | inr b ↦ ap is_refused b.1 ∙ new_refused (least any_entry there.known) differs.Beside new there ∙ never (least any_entry there.known)
+  | inr b ↦ elim b [
+    | inl s ↦ s.passes
+    | inr n ↦ ap is_refused n.1 ∙ new_refused (least any_entry there.known) differs.Beside new there ∙ never (least any_entry there.known)
+  ]
 ]
   where
     never : (o : Option Id) → blocks o differs.Beside there.ours ≡ false

@@ -46,13 +46,14 @@ RetiresNoneAhead x replica = (count : ℕ) → greatest replica x.seen < count �
 abbrev pub SupersedesNoneAhead : Content → List ℕ → Type 0
 SupersedesNoneAhead x replica = (count : ℕ) → greatest replica x.seen < count → supersedes x.ops (id_at replica count) ≡ false
 
--- an entry had the text already
+-- an entry had the text already, and nothing is made of it
 abbrev pub is_there : TextAction → Bool
 is_there (told.Same i) = true
 is_there (told.Superseded i) = true
 is_there (told.Entered i) = false
 is_there (told.Beside i) = false
 is_there (told.Revised i) = false
+is_there (told.Settled i) = false
 is_there (told.Refused p) = false
 is_there told.Spent = false
 

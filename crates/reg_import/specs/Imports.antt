@@ -1,5 +1,5 @@
 -- The effect of importing texts, text by text.
-use Rattle.std.specs.Prelude.{◌≡◌, ℕ, ◌+◌, nat_eq, nat_le, Bool, true, false, ◌&&◌, List, [], ◌∷◌, ◌++◌, map, length, Option, Some, None, option_map, if◌then◌else◌}
+use Rattle.std.specs.Prelude.{◌≡◌, ℕ, ◌+◌, nat_eq, nat_le, Bool, true, false, not, ◌&&◌, List, [], ◌∷◌, ◌++◌, map, filter, length, Option, Some, None, option_map, if◌then◌else◌}
 use Rattle.std.specs.Option.{unwrap_or}
 use Rattle.std.specs.List.{flat_map, list_any}
 use Rattle.std.specs.Cmp.Lexicographic.{pointwise}
@@ -25,6 +25,13 @@ has_text text e = pointwise nat_eq e.definition text
 
 abbrev pub has_text_and_is_valid : List ℕ → StandingEntry → Bool
 has_text_and_is_valid text e = has_text text e && e.valid
+
+-- the entries with the text, and those with another one
+abbrev pub with_text : List ℕ → List StandingEntry → List StandingEntry
+with_text text es = filter (has_text text) es
+
+abbrev pub with_another : List ℕ → List StandingEntry → List StandingEntry
+with_another text es = filter (λ (e : StandingEntry). not (has_text text e)) es
 
 abbrev pub any_entry : StandingEntry → Bool
 any_entry e = true
@@ -59,11 +66,21 @@ told_of_new (Some other) differs.Beside new there = unless_spent new.count (told
 told_of_new (Some other) differs.Revise new there =
     if there.ours then told.Refused (problem.KeyTaken other) else unless_spent (new.count + length there.known) (told.Revised new)
 
+-- the action for a text that this entry has, where these entries of its key have another text. Mode `revise` retires them, unless the
+-- command entered or found an entry of the key before
+abbrev pub told_of_found : TextAction → Differs → Id → OfKey → List StandingEntry → Id → TextAction
+told_of_found known differs.Refuse new there others i = known
+told_of_found known differs.Beside new there others i = known
+told_of_found known differs.Revise new there [] i = known
+told_of_found known differs.Revise new there (other ∷ others) i =
+    if there.ours then known else unless_spent (new.count + length others) (told.Settled i)
+
 -- the action for a text, given the entries of its key. A text has one key, so each entry that has the text is among these
 abbrev pub told_of : Differs → Id → OfKey → List ℕ → TextAction
 told_of d new there text =
-    unwrap_or (option_map told.Same (least (has_text_and_is_valid text) there.known))
-    (unwrap_or (option_map told.Superseded (least (has_text text) there.known)) (told_of_new (least any_entry there.known) d new there))
+    unwrap_or (option_map (λ i. told_of_found (told.Same i) d new there (with_another text there.known) i) (least (has_text_and_is_valid text) there.known))
+    (unwrap_or (option_map (λ i. told_of_found (told.Superseded i) d new there (with_another text there.known) i) (least (has_text text) there.known))
+    (told_of_new (least any_entry there.known) d new there))
 
 -- the effects of the action
 abbrev pub bodies_of : TextAction → List ℕ → List StandingEntry → List Body
@@ -72,6 +89,7 @@ bodies_of (told.Superseded i) text others = []
 bodies_of (told.Entered i) text others = Enter text ∷ []
 bodies_of (told.Beside i) text others = Enter text ∷ []
 bodies_of (told.Revised i) text others = Enter text ∷ map (λ (e : StandingEntry). Retire e.entry) others
+bodies_of (told.Settled i) text others = map (λ (e : StandingEntry). Retire e.entry) (with_another text others)
 bodies_of (told.Refused p) text others = []
 bodies_of told.Spent text others = []
 
@@ -85,6 +103,7 @@ then_of (told.Superseded i) key text there = record { known = there.known; ours 
 then_of (told.Entered i) key text there = record { known = there.known ++ entered i key text ∷ []; ours = true }
 then_of (told.Beside i) key text there = record { known = there.known ++ entered i key text ∷ []; ours = true }
 then_of (told.Revised i) key text there = record { known = entered i key text ∷ []; ours = true }
+then_of (told.Settled i) key text there = record { known = with_text text there.known; ours = true }
 then_of (told.Refused p) key text there = there
 then_of told.Spent key text there = there
 
@@ -127,6 +146,7 @@ is_refused (told.Superseded i) = false
 is_refused (told.Entered i) = false
 is_refused (told.Beside i) = false
 is_refused (told.Revised i) = false
+is_refused (told.Settled i) = false
 is_refused (told.Refused p) = true
 is_refused told.Spent = false
 
@@ -136,6 +156,7 @@ is_spent (told.Superseded i) = false
 is_spent (told.Entered i) = false
 is_spent (told.Beside i) = false
 is_spent (told.Revised i) = false
+is_spent (told.Settled i) = false
 is_spent (told.Refused p) = false
 is_spent told.Spent = true
 

@@ -30,6 +30,7 @@ action_word (told.Superseded i) = codes "superseded"
 action_word (told.Entered i) = codes "entered"
 action_word (told.Beside i) = codes "beside"
 action_word (told.Revised i) = codes "revised"
+action_word (told.Settled i) = codes "settled"
 action_word (told.Refused p) = codes "refused"
 action_word told.Spent = []
 
@@ -40,6 +41,7 @@ entry_text (told.Superseded i) = printed i
 entry_text (told.Entered i) = printed i
 entry_text (told.Beside i) = printed i
 entry_text (told.Revised i) = printed i
+entry_text (told.Settled i) = printed i
 entry_text (told.Refused p) = []
 entry_text told.Spent = []
 
@@ -63,6 +65,7 @@ fault_text (told.Superseded i) at = []
 fault_text (told.Entered i) at = []
 fault_text (told.Beside i) at = []
 fault_text (told.Revised i) at = []
+fault_text (told.Settled i) at = []
 fault_text (told.Refused p) at = problem_text p at
 fault_text told.Spent at = []
 
@@ -76,13 +79,14 @@ abbrev pub line_fields : List (List ℕ) → FileText → TextAction → List �
 line_fields names x t authority code name =
     name_at names x.file ∷ decimal x.place ∷ action_word t ∷ entry_text t ∷ authority ∷ code ∷ name ∷ fault_text t x.at ∷ []
 
--- an entry that is not retired has the text already
+-- an entry that is not retired has the text already, and nothing is made of it
 abbrev pub is_known : TextAction → Bool
 is_known (told.Same i) = true
 is_known (told.Superseded i) = true
 is_known (told.Entered i) = false
 is_known (told.Beside i) = false
 is_known (told.Revised i) = false
+is_known (told.Settled i) = false
 is_known (told.Refused p) = false
 is_known told.Spent = false
 

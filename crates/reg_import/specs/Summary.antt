@@ -14,7 +14,7 @@ use Rattle.reg_import.specs.declared.action.Differs.{Differs}
 use Rattle.reg_import.specs.declared.action.TextAction.{TextAction}
 use Rattle.reg_import.specs.declared.action.TextAction.TheVariants as told
 use Rattle.reg_import.specs.Known.{OfKey}
-use Rattle.reg_import.specs.Imports.{least, has_text, has_text_and_is_valid, any_entry, told_of_new}
+use Rattle.reg_import.specs.Imports.{least, has_text, has_text_and_is_valid, any_entry, told_of_new, told_of_found}
 
 -- the least entry with the text, and the least valid one
 abbrev pub found : List ℕ → List StandingEntry → Found
@@ -32,6 +32,8 @@ pub record SumsUp (s : Summary) (es : List StandingEntry) : Type 0 where
   pub least_of_all : s.least ≡ least any_entry es
   pub each : (text : IndexedText) → found_in (get bytes_cmp s.texts text) ≡ found text.definition es
 
--- the action for a text with these least entries, if this entry is the least of its key
-abbrev pub told_by : Found → Option Id → Differs → Id → OfKey → TextAction
-told_by f first d new there = unwrap_or (option_map told.Same f.valid) (unwrap_or (option_map told.Superseded f.any) (told_of_new first d new there))
+-- the action for a text with these least entries, if this entry is the least of its key, and these of its key have another text
+abbrev pub told_by : Found → Option Id → Differs → Id → OfKey → List StandingEntry → TextAction
+told_by f first d new there others =
+    unwrap_or (option_map (λ i. told_of_found (told.Same i) d new there others i) f.valid)
+    (unwrap_or (option_map (λ i. told_of_found (told.Superseded i) d new there others i) f.any) (told_of_new first d new there))

@@ -2,13 +2,14 @@
 
 ghost use Rattle.std.specs.Prelude.{◌≡◌, ◌+◌, ◌<◌, ◌≤◌, ◌++◌, ◌∷◌, [], Some, IfSome, IfNone, OnOk};
 ghost use Rattle.reg_state.specs.Runs.{id_at};
-ghost use Rattle.reg_import.specs.Imports.{least, any_entry, told_of, told_of_new, unless_spent, is_refused, is_spent};
+ghost use Rattle.reg_import.specs.Imports.{least, any_entry, with_another, told_of, told_of_new, told_of_found, unless_spent, is_refused, is_spent};
 ghost use Rattle.reg_import.specs.Index.{entries_seen};
 ghost use Rattle.reg_import.specs.Lines.{is_known};
 ghost use Rattle.reg_import.specs.Summary.{told_by};
 
 use crate::entries_of_key::EntriesOfKey;
 use crate::indexed_text::IndexedText;
+use crate::least::count_others;
 use crate::summary::Found;
 use reg_op::OpId;
 use std::alloc::AllocError;
@@ -22,7 +23,7 @@ pub enum Differs {
     Refuse,
     /// It is entered anyway.
     Beside,
-    /// It is entered, and the other entries of its key are retired.
+    /// It stays alone: it is entered unless an entry has it, and the entries of its key with another text are retired.
     Revise,
 }
 
@@ -47,6 +48,8 @@ pub enum TextAction {
     Beside(OpId),
     /// It is entered, and the other entries of its key are retired.
     Revised(OpId),
+    /// This entry has the text, and the entries of its key with another text are retired.
+    Settled(OpId),
     Refused(Problem),
     /// One of its numbers would exceed 4,294,967,295, so it makes nothing.
     Spent,
@@ -63,6 +66,7 @@ impl TextAction {
             TextAction::Entered(_) => false,
             TextAction::Beside(_) => false,
             TextAction::Revised(_) => false,
+            TextAction::Settled(_) => false,
             TextAction::Spent => false,
         }
     }
@@ -77,6 +81,7 @@ impl TextAction {
             TextAction::Entered(_) => false,
             TextAction::Beside(_) => false,
             TextAction::Revised(_) => false,
+            TextAction::Settled(_) => false,
             TextAction::Refused(_) => false,
             TextAction::Spent => false,
         }
@@ -92,6 +97,7 @@ impl TextAction {
             TextAction::Entered(_) => false,
             TextAction::Beside(_) => false,
             TextAction::Revised(_) => false,
+            TextAction::Settled(_) => false,
             TextAction::Refused(_) => false,
         }
     }
@@ -157,22 +163,57 @@ fn told_new(replica: Uuid, count: u64) -> TextAction
     }
 }
 
+// The action for a text that this entry has, if it is alone: otherwise the others are retired.
+fn told_known(
+    differs: Differs,
+    replica: Uuid,
+    count: u64,
+    entries: &EntriesOfKey,
+    text: &[u8],
+    entry: OpId,
+    alone: TextAction,
+) -> TextAction
+    requires { 0 < count }
+    ensures { result ≡ told_of_found alone differs (id_at replica count) (entries_seen entries.now) (with_another text.now (entries_seen entries.now).known) entry }
+{
+    if entries.ours {
+        return alone;
+    }
+    match differs {
+        Differs::Refuse => alone,
+        Differs::Beside => alone,
+        Differs::Revise => {
+            let others = count_others(&entries.known, text);
+            if others == 0 {
+                return alone;
+            }
+            match number(replica, count, others - 1) {
+                Some(_) => TextAction::Settled(entry),
+                None => TextAction::Spent,
+            }
+        }
+    }
+}
+
 // The action for a text, given its least entries among those of its key.
 fn told_found(
     differs: Differs,
     replica: Uuid,
     count: u64,
     entries: &EntriesOfKey,
+    text: &[u8],
     found: Found,
 ) -> TextAction
     requires { 0 < count }
-    ensures { result ≡ told_by found (least any_entry (entries_seen entries.now).known) differs (id_at replica count) (entries_seen entries.now) }
+    ensures { result ≡ told_by found (least any_entry (entries_seen entries.now).known) differs (id_at replica count) (entries_seen entries.now) (with_another text.now (entries_seen entries.now).known) }
 {
     if let Some(entry) = found.valid {
-        return TextAction::Same(entry);
+        let alone = TextAction::Same(entry);
+        return told_known(differs, replica, count, entries, text, entry, alone);
     }
     if let Some(entry) = found.any {
-        return TextAction::Superseded(entry);
+        let alone = TextAction::Superseded(entry);
+        return told_known(differs, replica, count, entries, text, entry, alone);
     }
     match entries.least() {
         None => told_new(replica, count),
@@ -192,5 +233,6 @@ pub fn told_of(
     ensures { result ≡ told_of differs (id_at replica count) (entries_seen entries.now) text.now.definition }
 {
     let found = entries.find(text);
-    told_found(differs, replica, count, entries, found)
+    let bytes = text.definition.as_bytes();
+    told_found(differs, replica, count, entries, bytes, found)
 }

@@ -1,13 +1,13 @@
 //! The entries of a key.
 
-ghost use Rattle.std.specs.Prelude.{List, ◌≡◌, ◌++◌, ◌∷◌, [], true, false, IfOk, OnOk};
+ghost use Rattle.std.specs.Prelude.{List, ◌≡◌, ◌++◌, ◌∷◌, [], true, false, None, IfOk, OnOk};
 ghost use Rattle.std.specs.Option.{ForSome};
 ghost use Rattle.reg_import.specs.declared.standing_entry.StandingEntry.{StandingEntry};
-ghost use Rattle.reg_import.specs.Imports.{least, any_entry};
+ghost use Rattle.reg_import.specs.Imports.{least, any_entry, with_text};
 ghost use Rattle.reg_import.specs.Summary.{found, SumsUp};
 
 use crate::indexed_text::IndexedText;
-use crate::least::{least_of_all, least_same, least_valid};
+use crate::least::{has_text, least_of_all, least_same, least_valid};
 use crate::standing_entry::StandingEntry;
 use crate::summary::{Found, Summary};
 use reg_op::OpId;
@@ -73,6 +73,12 @@ fn push_entry(known: &mut Vec<StandingEntry>, entry: StandingEntry) -> Result<()
     Ok(())
 }
 
+fn keep_text(known: &mut Vec<StandingEntry>, text: &[u8])
+    ensures { known.new.items ≡ with_text text.now known.old.items }
+{
+    known.retain(|entry| has_text(entry, text));
+}
+
 impl EntriesOfKey {
     /// No entries.
     pub fn empty(alloc: Global) -> EntriesOfKey
@@ -126,6 +132,25 @@ impl EntriesOfKey {
             ours: true,
             summary,
         }
+    }
+
+    /// Those of the entries that have the text, one of which this command found.
+    pub fn with_text(self, alloc: Global, text: &[u8]) -> Result<EntriesOfKey, AllocError>
+        ensures known { IfOk result (λ b. b.known.items ≡ with_text text.now self.known.items) }
+        ensures ours { IfOk result (λ b. b.ours ≡ true) }
+    {
+        let EntriesOfKey {
+            mut known,
+            ours: _,
+            summary: _,
+        } = self;
+        keep_text(&mut known, text);
+        let summary = or_summed(alloc, None, &known)?;
+        Ok(EntriesOfKey {
+            known,
+            ours: true,
+            summary,
+        })
     }
 
     /// The least entry.

@@ -19,7 +19,7 @@ ghost use Rattle.reg_import.specs.declared.import.ImportRefusal.TheVariants as r
 ghost use Rattle.reg_import.specs.Readings.{IsReading};
 ghost use Rattle.reg_import.specs.Plans.{Imports, IsImportRefusal};
 ghost use Rattle.reg_import.specs.Gone.{IsGone, AreGone, IsKeyOf, IsLiveKey};
-ghost use Rattle.reg_import.specs.Modes.{MakesNoConflict, RetiresNothing, LeavesOneText};
+ghost use Rattle.reg_import.specs.Modes.{MakesNoConflict, RetiresNothing, LeavesOneText, StandAlone};
 ghost use Rattle.reg_import.specs.Again.{HasStanding, standing_texts, IsSameReading, AreReadings, RetiresNoneAhead, SupersedesNoneAhead, IsToldAgain};
 
 /// A text has one reading: the same bytes are read as the same definition with the same key, or refused for the same reason.
@@ -79,8 +79,11 @@ pub fn refuse_makes_no_conflict()
         → IsContent x → AreReadings texts readings → Imports x replica note Beside keep_going readings y ts → RetiresNothing x y }
 {}
 
-/// An import in mode `revise` leaves, for each key of a text that it entered, exactly one text that is not retired.
+/// An import in mode `revise` leaves, for each key of a text that it entered, exactly one text that is not retired. So it does for the
+/// key of each text of the files that it did not refuse, which is that one text then, whatever stood beside it before.
 pub fn revise_leaves_one_text()
-    ensures { (x y : Content) (replica note : List ℕ) (keep_going : Bool) (texts : List (List ℕ)) (readings : List ReadText) (ts : List TextAction)
+    ensures file { (x y : Content) (replica note : List ℕ) (keep_going : Bool) (texts : List (List ℕ)) (readings : List ReadText) (ts : List TextAction)
+        → IsContent x → RetiresNoneAhead x replica → AreReadings texts readings → Imports x replica note Revise keep_going readings y ts → StandAlone y readings ts }
+    ensures entered { (x y : Content) (replica note : List ℕ) (keep_going : Bool) (texts : List (List ℕ)) (readings : List ReadText) (ts : List TextAction)
         → IsContent x → RetiresNoneAhead x replica → AreReadings texts readings → Imports x replica note Revise keep_going readings y ts → LeavesOneText x y }
 {}

@@ -1,7 +1,7 @@
-//! The least of some entries.
+//! The least of some entries, and those with a text.
 
-ghost use Rattle.std.specs.Prelude.{◌≡◌, Some};
-ghost use Rattle.reg_import.specs.Imports.{least, has_text, has_text_and_is_valid, any_entry, sooner};
+ghost use Rattle.std.specs.Prelude.{◌≡◌, Some, length};
+ghost use Rattle.reg_import.specs.Imports.{least, has_text, has_text_and_is_valid, any_entry, with_another, sooner};
 
 use crate::standing_entry::StandingEntry;
 use reg_op::OpId;
@@ -20,7 +20,8 @@ fn sooner(entry: OpId, other: Option<OpId>) -> OpId
     }
 }
 
-fn has_text(entry: &StandingEntry, text: &[u8]) -> bool
+/// Whether the entry has the text.
+pub fn has_text(entry: &StandingEntry, text: &[u8]) -> bool
     ensures { result ≡ has_text text.now entry.now }
 {
     entry.definition.as_bytes() == text
@@ -67,4 +68,19 @@ pub fn least_of_all(entries: &[StandingEntry]) -> Option<OpId>
         rest = others;
     }
     best
+}
+
+/// How many of the entries have another text.
+pub fn count_others(entries: &[StandingEntry], text: &[u8]) -> usize
+    ensures { result ≡ length (with_another text.now entries.now) }
+{
+    let mut count = 0;
+    let mut rest = entries;
+    while let Some((entry, others)) = rest.split_first() {
+        if !has_text(entry, text) {
+            count += 1;
+        }
+        rest = others;
+    }
+    count
 }

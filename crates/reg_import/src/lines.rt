@@ -23,6 +23,7 @@ fn action_word(told: &TextAction) -> &'static [u8]
         TextAction::Entered(_) => b"entered",
         TextAction::Beside(_) => b"beside",
         TextAction::Revised(_) => b"revised",
+        TextAction::Settled(_) => b"settled",
         TextAction::Refused(_) => b"refused",
         TextAction::Spent => b"",
     }
@@ -37,6 +38,7 @@ fn entry_text(alloc: Global, told: &TextAction) -> Result<Vec<u8>, AllocError>
         TextAction::Entered(entry) => printed(alloc, *entry),
         TextAction::Beside(entry) => printed(alloc, *entry),
         TextAction::Revised(entry) => printed(alloc, *entry),
+        TextAction::Settled(entry) => printed(alloc, *entry),
         TextAction::Refused(_) => Ok(Vec::new(alloc)),
         TextAction::Spent => Ok(Vec::new(alloc)),
     }
@@ -128,6 +130,7 @@ fn fault_text(alloc: Global, told: &TextAction, at: usize) -> Result<Vec<u8>, Al
         TextAction::Entered(_) => Ok(Vec::new(alloc)),
         TextAction::Beside(_) => Ok(Vec::new(alloc)),
         TextAction::Revised(_) => Ok(Vec::new(alloc)),
+        TextAction::Settled(_) => Ok(Vec::new(alloc)),
         TextAction::Spent => Ok(Vec::new(alloc)),
     }
 }

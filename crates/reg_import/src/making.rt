@@ -7,10 +7,11 @@ ghost use Rattle.reg_op.specs.declared.operation.OpBody.TheVariants as body;
 ghost use Rattle.reg_op.specs.Contents.{state, joined};
 ghost use Rattle.reg_state.specs.Tables.{first_dropped};
 ghost use Rattle.reg_office.specs.Making.{greatest, numbered};
-ghost use Rattle.reg_import.specs.Imports.{bodies_of};
+ghost use Rattle.reg_import.specs.Imports.{with_another, bodies_of};
 ghost use Rattle.reg_import.specs.Plans.{retired, AreNumbered};
 
 use crate::action::TextAction;
+use crate::least::has_text;
 use crate::standing_entry::StandingEntry;
 use reg_office::{last_count, register_of};
 use reg_op::{Note, Op, OpBody, OpId};
@@ -71,6 +72,37 @@ fn push_retirements(
     Ok(())
 }
 
+// Appends the retirements of the entries with another text.
+fn push_others(
+    ops: &mut Vec<Op>,
+    replica: Uuid,
+    first: u64,
+    note: &Note,
+    entries: &[StandingEntry],
+    text: &[u8],
+) -> Result<(), AllocError>
+    requires positive { 0 < first }
+    requires fits { first + length (with_another text.now entries.now) ≤ 4294967296 }
+    ensures { OnOk result (ops.new.items ≡ ops.old.items ++ numbered replica first note.now (retired (with_another text.now entries.now))) }
+{
+    let mut count = first;
+    let mut rest = entries;
+    while let Some((entry, others)) = rest.split_first() {
+        if !has_text(entry, text) {
+            push_op(
+                ops,
+                replica,
+                count,
+                note,
+                OpBody::Retire { entry: entry.entry },
+            )?;
+            count += 1;
+        }
+        rest = others;
+    }
+    Ok(())
+}
+
 fn push_entered(
     alloc: Global,
     ops: &mut Vec<Op>,
@@ -108,6 +140,9 @@ pub fn push_ops(
         TextAction::Revised(_) => {
             push_entered(alloc, ops, replica, count, note, definition)?;
             push_retirements(ops, replica, count + 1, note, others)
+        }
+        TextAction::Settled(_) => {
+            push_others(ops, replica, count, note, others, definition.as_bytes())
         }
         TextAction::Same(_) => Ok(()),
         TextAction::Superseded(_) => Ok(()),

@@ -82,6 +82,7 @@ fn then_of(
             key,
             definition,
         ),
+        TextAction::Settled(_) => entries.with_text(alloc, definition.as_bytes()),
         TextAction::Refused(_) => Ok(entries),
         TextAction::Spent => Ok(entries),
     }

@@ -93,6 +93,7 @@ fn first_of(refused: Option<Refused>, text: &FileText, told: &TextAction) -> Opt
         TextAction::Entered(_) => None,
         TextAction::Beside(_) => None,
         TextAction::Revised(_) => None,
+        TextAction::Settled(_) => None,
         TextAction::Spent => None,
     }
 }
