@@ -13,5 +13,6 @@ pub use fault::NamesFault;
 pub use names::Name;
 pub use reading::read;
 pub use rows::with_names;
-pub use shown::named;
+pub use shown::{named, named_in};
+pub use standing::Names;
 pub use words::typed;
