@@ -5,7 +5,7 @@ ghost use Rattle.reg_report.specs.Seen.{row_seen};
 ghost use Rattle.reg_lint.specs.Entered.{is_new, AreEntered};
 ghost use Rattle.reg_lint.specs.Subjects.{Subject, AreKept};
 
-use crate::kept::KeptSubject;
+use crate::kept::{KeptSubject, Room};
 use crate::live::live_of_rows;
 use reg_report::{Row, is_entered, rows};
 use reg_state::Register;
@@ -21,7 +21,7 @@ pub fn entered_subjects(
 {
     let mut rows = rows(alloc, later)?;
     keep_new(&mut rows, earlier);
-    let kept = live_of_rows(alloc, rows)?;
+    let kept = live_of_rows(alloc, Room::none(), rows)?;
     Ok(kept)
 }
 

@@ -48,12 +48,25 @@ const BESIDE: usize = 400;
 #[derive(Drop)]
 pub(crate) struct Room {
     left: usize,
+    // And so many more for each byte of a text.
+    for_byte: usize,
 }
 
 impl Room {
     /// Where nothing is held yet.
     pub(crate) fn new() -> Room {
-        Room { left: FIRST }
+        Room {
+            left: FIRST,
+            for_byte: BYTE,
+        }
+    }
+
+    /// No room, as beside registers that are held.
+    pub(crate) fn none() -> Room {
+        Room {
+            left: 0,
+            for_byte: 0,
+        }
     }
 
     /// Beside what is held of other texts.
@@ -61,12 +74,18 @@ impl Room {
         if kept.is_empty() {
             return Room::new();
         }
-        Room { left: 0 }
+        Room {
+            left: 0,
+            for_byte: BYTE,
+        }
     }
 
     /// Whether the value of the text may be held. If so, it takes its room.
     fn takes(&mut self, text: &[u8]) -> bool {
-        let room = text.len().saturating_mul(BYTE).saturating_sub(BESIDE);
+        let room = text
+            .len()
+            .saturating_mul(self.for_byte)
+            .saturating_sub(BESIDE);
         let all = self.left.saturating_add(room);
         let value = value_bytes(text);
         if all < value {

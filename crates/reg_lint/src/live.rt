@@ -16,16 +16,20 @@ pub fn live_subjects(alloc: Global, register: &Register) -> Result<Vec<KeptSubje
     ensures { IfOk result (λ kept. (subjects : List Subject) × AreLiveIn register.now subjects × AreKept kept.items subjects) }
 {
     let rows = rows(alloc, register)?;
-    let kept = live_of_rows(alloc, rows)?;
+    let kept = live_of_rows(alloc, Room::new(), rows)?;
     Ok(kept)
 }
 
-/// What is kept of the entries of these rows that are not retired, in order.
-pub(crate) fn live_of_rows(alloc: Global, rows: Vec<Row>) -> Result<Vec<KeptSubject>, AllocError>
+/// What is kept of the entries of these rows that are not retired, in order; as many values as there is room for.
+pub(crate) fn live_of_rows(
+    alloc: Global,
+    room: Room,
+    rows: Vec<Row>,
+) -> Result<Vec<KeptSubject>, AllocError>
     ensures { IfOk result (λ kept. AreLiveKept (map row_seen rows.items) kept.items) }
 {
     let mut kept = Vec::with_capacity(alloc, rows.len())?;
-    let mut room = Room::new();
+    let mut room = room;
     for row in rows {
         let live = live_of(alloc, &mut room, &row)?;
         push_some(&mut kept, live)?;
